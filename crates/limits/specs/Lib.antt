@@ -1,0 +1,37 @@
+-- The limits of document 01, 'Parts and how big they are', under the names that src/lib.rt has.
+use Prim.Native.Nat.{ℕ}
+
+-- objects are numbered 0 to 1,023
+abbrev pub objects : ℕ
+objects = 1024
+
+-- replicas are numbered 1 to at most 8
+abbrev pub replicas : ℕ
+replicas = 8
+
+-- at most 64 packets wait
+abbrev pub waiting : ℕ
+waiting = 64
+
+-- at most 64 operations are open
+abbrev pub opened : ℕ
+opened = 64
+
+-- all links together hold at most 64 writes
+abbrev pub linked : ℕ
+linked = 64
+
+-- operations are numbered 1 to 65,535
+abbrev pub lastOperation : ℕ
+lastOperation = 65535
+
+-- counters have 16 bits
+abbrev pub lastCounter : ℕ
+lastCounter = 65535
+
+abbrev pub counters : ℕ
+counters = 65536
+
+-- the width of a place in the log: no run reaches its end
+abbrev pub lastPosition : ℕ
+lastPosition = 4294967295

@@ -1,0 +1,1 @@
+// Theorems about lists, for the crates above: no code.

@@ -1,0 +1,2 @@
+-- The waiting list.
+pub mod Waiting
