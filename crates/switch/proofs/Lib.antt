@@ -1,0 +1,3 @@
+pub mod FirstSlot
+pub mod Laws
+pub mod Lookup

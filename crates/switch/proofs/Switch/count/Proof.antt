@@ -1,0 +1,76 @@
+-- The loop's invariant: n counts the marks of the first i slots.
+use mathlib.Core.Path.{_≡_, refl, sym, _∙_}
+use mathlib.Core.Bool.{Bool, true, false, cond}
+use mathlib.Core.List.{List}
+use mathlib.Core.Logic.{⊎-elim}
+use Prim.Native.Nat.{ℕ, _+_, _-_, _≤_}
+use native.Mathlib.Numerals.{add-one}
+use native.Mathlib.Omega.{arith}
+use lib.ListN.{getD}
+use borrow.Author.Needs.{needs}
+use Rattle.stamp.specs.Stamps.{isAbove}
+use Rattle.switch.specs.DirtySet.{countsAbove, countedTo, countedMarks}
+use Rattle.switch.proofs.Switch.count.Statement.{statement}
+use Rattle.switch.proofs.Switch.count.Tie as tie
+
+abbrev Inv-loop : tie.InvT-loop
+Inv-loop stamps c n₀ i₀ n i = (n ≡ countedTo stamps c i) × (n ≤ i) × (i ≤ 48)
+
+abbrev μ-loop : tie.MeasureT-loop
+μ-loop stamps c n₀ i₀ n i = 48 - i
+
+-- one slot more
+more : (l : List ℕ) (c i n : ℕ) (t : Bool) → t ≡ isAbove (getD l i 0) c → n ≡ countedTo l c i → cond t (n + 1) n ≡ countedTo l c (i + 1)
+unfolding countedTo countsAbove
+more l c i n t e h = rw (add-one i, e, h)
+
+loop-holds : tie.Need-loop-holds Inv-loop μ-loop
+unfolding countedTo
+loop-holds c = (refl, omega arith, omega arith)
+
+mul-above : tie.Need-mul-above Inv-loop μ-loop
+mul-above c = search needs
+
+array-read-above : tie.Need-array-read-above Inv-loop μ-loop
+array-read-above c = search needs
+
+above-requires : tie.Need-above-requires Inv-loop μ-loop
+above-requires c κs = search needs
+
+add-n : tie.Need-add-n Inv-loop μ-loop
+add-n c = search needs
+
+add-i : tie.Need-add-i Inv-loop μ-loop
+add-i c = search needs
+
+loop-less : tie.Need-loop-less Inv-loop μ-loop
+loop-less c = search needs
+
+loop-again : tie.Need-loop-again Inv-loop μ-loop
+loop-again c =
+    let h = c .before .before .before .loop .inv .0 in
+    let e = c .before .above .ensures in
+    ⊎-elim
+    (λ w. (w .1 ∙ more _ _ (c .before .before .before .loop .i) _ true (sym (w .0 .taken) ∙ e) h, omega arith, omega arith))
+    (λ w. (w .1 ∙ more _ _ (c .before .before .before .loop .i) _ false (sym (w .0 .left) ∙ e) h, omega arith, omega arith))
+    (c .if1 .came)
+
+returns : tie.Need-returns Inv-loop μ-loop
+unfolding countedMarks
+returns c = let e : c .before .loop .i ≡ 48 = omega arith in rw e at (c .before .loop .inv .0)
+
+pub count-spec : {M : Type 1} → statement M
+count-spec =
+    tie.close
+    (tie.spec
+    Inv-loop
+    μ-loop
+    loop-holds
+    mul-above
+    array-read-above
+    above-requires
+    add-n
+    add-i
+    loop-less
+    loop-again
+    returns)

@@ -1,0 +1,2 @@
+-- The switch and its dirty set.
+pub mod DirtySet
