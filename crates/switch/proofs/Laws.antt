@@ -1,17 +1,18 @@
 -- How the switch's number, counter, last-committed stamp and direct-reads sign move: only as the rules say.
 use mathlib.Core.Path.{_≡_, refl, sym, _∙_}
 use mathlib.Core.Bool.{Bool, true, false, cond}
+use mathlib.Core.List.{List}
 use mathlib.Core.Logic.{_⊎_, inl, inr}
 use Prim.Native.Nat.{ℕ, _+_, _*_, _≤_, _<_}
 use native.Mathlib.Omega.{arith}
 use lib.Dec.{eqb, leb}
-use lib.ListN.{length, length-set, length-replicate}
+use lib.ListN.{length, getD, set, length-set, length-replicate}
 use borrow.Author.Tests.{eqb-false, leb-false}
 use Rattle.stamp.specs.Stamps.{stampOf, isAbove, largerOf}
 use Rattle.stamp.proofs.Laws.{lt-above}
 use Rattle.switch.specs.declared.Switch.{Switch}
 use Rattle.switch.specs.declared.Marked.{Marked}
-use Rattle.switch.specs.DirtySet.{slots, slotFor, nextStamp, marking, notMarked, marked, clearedAt, completed, newSwitch}
+use Rattle.switch.specs.DirtySet.{slots, slotFor, nextStamp, marking, notMarked, marked, isCompleted, clearedAt, completed, newSwitch}
 
 abbrev pub made : Switch → ℕ → Marked
 made w o = record { ok = true; stamp = nextStamp w; state = marking w o (slotFor w o) }
@@ -106,8 +107,20 @@ Sized w = (length (w .objects) ≡ slots) × (length (w .stamps) ≡ slots)
 
 pub sized-new : (n : ℕ) → Sized (newSwitch n)
 unfolding newSwitch
-sized-new n = (length-replicate slots 0, length-replicate slots 0)
+sized-new n = (length-replicate {A = ℕ} slots 0, length-replicate {A = ℕ} slots 0)
 
 pub sized-marked : (w : Switch) (o : ℕ) → Sized w → Sized (marked w o .state)
 unfolding marking
-sized-marked w o h = by-marked (λ m. Sized (m .state)) w o h (length-set _ _ _ ∙ h .0, length-set _ _ _ ∙ h .1)
+sized-marked w o h = by-marked (λ m. Sized (m .state)) w o h (simp length-set (h .0), simp length-set (h .1))
+
+length-cleared : (os : List ℕ) (ss : List ℕ) (o t i : ℕ) → length (clearedAt os ss o t i) ≡ length ss
+unfolding clearedAt
+length-cleared os ss o t i = go (isCompleted (getD os i 0) (getD ss i 0) o t)
+  where
+    go : (b : Bool) → length (cond b (set ss i 0) ss) ≡ length ss
+    go true = length-set ss i 0
+    go false = refl
+
+pub sized-completed : (w : Switch) (o t : ℕ) → Sized w → Sized (completed w o t)
+unfolding completed
+sized-completed w o t h = (h .0, simp length-cleared (h .1))

@@ -55,13 +55,21 @@ fn holds(object: Object, stamp: Stamp, o: Object) -> bool
 fn is_free(stamp: Stamp, committed: Stamp) -> bool
     ensures { λ r. ⌜ r ≡ isFree stamp committed ⌝ }
 {
-    if stamp::above(stamp, committed) { false } else { true }
+    if stamp::above(stamp, committed) {
+        false
+    } else {
+        true
+    }
 }
 
 fn holds_above(object: Object, stamp: Stamp, o: Object, c: Stamp) -> bool
     ensures { λ r. ⌜ r ≡ holdsAbove object stamp o c ⌝ }
 {
-    if holds(object, stamp, o) { stamp::above(stamp, c) } else { false }
+    if holds(object, stamp, o) {
+        stamp::above(stamp, c)
+    } else {
+        false
+    }
 }
 
 fn is_completed(object: Object, stamp: Stamp, o: Object, t: Stamp) -> bool
@@ -75,7 +83,13 @@ fn is_completed(object: Object, stamp: Stamp, o: Object, t: Stamp) -> bool
 }
 
 // The stamps without a mark of o at slot i that the completion t covers.
-fn clear(objects: [Object; SLOTS], stamps: [Stamp; SLOTS], o: Object, t: Stamp, i: usize) -> [Stamp; SLOTS]
+fn clear(
+    objects: [Object; SLOTS],
+    stamps: [Stamp; SLOTS],
+    o: Object,
+    t: Stamp,
+    i: usize,
+) -> [Stamp; SLOTS]
     requires { ⌜ i < 48 ⌝ }
     ensures { λ r. ⌜ r ≡ clearedAt objects stamps o t i ⌝ }
 {

@@ -146,7 +146,7 @@ waits-adding v e = go (leb 1 (e .add)) (leb 2 (e .add))
         let room : held v + 2 ≤ length (v .packets) = omega (arith, length-waits v, length-append (waits v) (e .first ∷ e .second ∷ [])) in
         let one : held v < length (v .packets) = omega arith in
         let two : held (putLast v (e .first)) < length (putLast v (e .first) .packets) =
-            omega (arith, held-put v (e .first) one, places-put v (e .first)) in
+        omega (arith, held-put v (e .first) one, places-put v (e .first)) in
         waits-put (putLast v (e .first)) (e .second) two ∙
         ap (λ (l : List Packet). l ++ e .second ∷ []) (waits-put v (e .first) one) ∙
         append-assoc (waits v) (e .first ∷ []) (e .second ∷ [])

@@ -7,9 +7,6 @@ use Rattle.stamp.proofs.larger.Lts as lts
 use Rattle.stamp.proofs.above.Reads as above-reads
 
 -- src/lib.rt:24:8
-above-requires : tie.Need-above-requires
-above-requires c κs = search needs
-
 -- src/lib.rt:21:1
 returns : tie.Need-returns
 unfolding largerOf
@@ -21,4 +18,4 @@ unfolding largerOf
 returns-2 c = simp (← c .before .above .ensures, c .if1 .left)
 
 pub larger-spec : {M : Type 1} → statement M
-larger-spec = tie.close (tie.spec above-requires returns returns-2)
+larger-spec = tie.close (tie.spec (λ c κs. search needs) returns returns-2)

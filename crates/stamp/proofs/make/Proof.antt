@@ -6,17 +6,11 @@ use Rattle.stamp.proofs.make.Reads as reads
 use Rattle.stamp.proofs.make.Lts as lts
 
 -- src/lib.rt:12:5
-mul-result : tie.Need-mul-result
-mul-result c = search needs
-
 -- src/lib.rt:12:5
-add-result : tie.Need-add-result
-add-result c = search needs
-
 -- src/lib.rt:9:1
 returns : tie.Need-returns
 unfolding stampOf
 returns c = search needs
 
 pub make-spec : {M : Type 1} → statement M
-make-spec = tie.close (tie.spec mul-result add-result returns)
+make-spec = tie.close (tie.spec (λ c. search needs) (λ c. search needs) returns)

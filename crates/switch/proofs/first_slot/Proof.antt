@@ -3,12 +3,9 @@ use borrow.Author.Needs.{needs}
 use Rattle.switch.proofs.first_slot.Statement.{statement}
 use Rattle.switch.proofs.first_slot.Tie as tie
 
-cast-result : tie.Need-cast-result
-cast-result c = search needs
-
 returns : tie.Need-returns
 unfolding firstSlot
 returns c = search needs
 
 pub first-slot-spec : {M : Type 1} → statement M
-first-slot-spec = tie.close (tie.spec cast-result returns)
+first-slot-spec = tie.close (tie.spec (λ c. search needs) returns)

@@ -3,12 +3,6 @@ use borrow.Author.Needs.{needs}
 use Rattle.switch.proofs.holds_above.Statement.{statement}
 use Rattle.switch.proofs.holds_above.Tie as tie
 
-holds-requires : tie.Need-holds-requires
-holds-requires c κs = search needs
-
-above-requires : tie.Need-above-requires
-above-requires c κs = search needs
-
 returns : tie.Need-returns
 unfolding holdsAbove countsAbove
 returns c = simp (← c .before .before .holds .ensures, c .before .if1 .taken, ← c .above .ensures)
@@ -18,4 +12,4 @@ unfolding holdsAbove countsAbove
 returns-2 c = simp (← c .before .holds .ensures, c .if1 .left)
 
 pub holds-above-spec : {M : Type 1} → statement M
-holds-above-spec = tie.close (tie.spec holds-requires above-requires returns returns-2)
+holds-above-spec = tie.close (tie.spec (λ c κs. search needs) (λ c κs. search needs) returns returns-2)

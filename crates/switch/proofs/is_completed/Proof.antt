@@ -3,12 +3,6 @@ use borrow.Author.Needs.{needs}
 use Rattle.switch.proofs.is_completed.Statement.{statement}
 use Rattle.switch.proofs.is_completed.Tie as tie
 
-holds-requires : tie.Need-holds-requires
-holds-requires c κs = search needs
-
-above-requires : tie.Need-above-requires
-above-requires c κs = search needs
-
 returns : tie.Need-returns
 unfolding isCompleted
 returns c = simp (← c .before .before .before .holds .ensures, c .before .before .if1 .taken, ← c .before .above .ensures, c .if2 .taken)
@@ -22,4 +16,4 @@ unfolding isCompleted
 returns-3 c = simp (← c .before .holds .ensures, c .if1 .left)
 
 pub is-completed-spec : {M : Type 1} → statement M
-is-completed-spec = tie.close (tie.spec holds-requires above-requires returns returns-2 returns-3)
+is-completed-spec = tie.close (tie.spec (λ c κs. search needs) (λ c κs. search needs) returns returns-2 returns-3)

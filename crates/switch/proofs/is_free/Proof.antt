@@ -3,9 +3,6 @@ use borrow.Author.Needs.{needs}
 use Rattle.switch.proofs.is_free.Statement.{statement}
 use Rattle.switch.proofs.is_free.Tie as tie
 
-above-requires : tie.Need-above-requires
-above-requires c κs = search needs
-
 returns : tie.Need-returns
 unfolding isFree countsAbove
 returns c = simp (← c .before .above .ensures, c .if1 .taken)
@@ -15,4 +12,4 @@ unfolding isFree countsAbove
 returns-2 c = simp (← c .before .above .ensures, c .if1 .left)
 
 pub is-free-spec : {M : Type 1} → statement M
-is-free-spec = tie.close (tie.spec above-requires returns returns-2)
+is-free-spec = tie.close (tie.spec (λ c κs. search needs) returns returns-2)

@@ -28,24 +28,6 @@ loop-holds : tie.Need-loop-holds Inv-loop μ-loop
 unfolding countedTo
 loop-holds c = (refl, omega arith, omega arith)
 
-mul-above : tie.Need-mul-above Inv-loop μ-loop
-mul-above c = search needs
-
-array-read-above : tie.Need-array-read-above Inv-loop μ-loop
-array-read-above c = search needs
-
-above-requires : tie.Need-above-requires Inv-loop μ-loop
-above-requires c κs = search needs
-
-add-n : tie.Need-add-n Inv-loop μ-loop
-add-n c = search needs
-
-add-i : tie.Need-add-i Inv-loop μ-loop
-add-i c = search needs
-
-loop-less : tie.Need-loop-less Inv-loop μ-loop
-loop-less c = search needs
-
 loop-again : tie.Need-loop-again Inv-loop μ-loop
 loop-again c =
     let h = c .before .before .before .loop .inv .0 in
@@ -66,11 +48,11 @@ count-spec =
     Inv-loop
     μ-loop
     loop-holds
-    mul-above
-    array-read-above
-    above-requires
-    add-n
-    add-i
-    loop-less
+    (λ c. search needs)
+    (λ c. search needs)
+    (λ c κs. search needs)
+    (λ c. search needs)
+    (λ c. search needs)
+    (λ c. search needs)
     loop-again
     returns)

@@ -3,9 +3,6 @@ use borrow.Author.Needs.{needs}
 use Rattle.waiting.proofs.WaitingList.after_taking.Statement.{statement}
 use Rattle.waiting.proofs.WaitingList.after_taking.Tie as tie
 
-take-out-requires : tie.Need-take-out-requires
-take-out-requires c κs = search needs
-
 returns : tie.Need-returns
 unfolding afterTaking
 returns c = simp (c .take-out .ensures, c .before .if1 .taken)
@@ -15,4 +12,4 @@ unfolding afterTaking
 returns-2 c = simp (c .if1 .left)
 
 pub after-taking-spec : {M : Type 1} → statement M
-after-taking-spec = tie.close (tie.spec take-out-requires returns returns-2)
+after-taking-spec = tie.close (tie.spec (λ c κs. search needs) returns returns-2)

@@ -10,16 +10,11 @@ use Rattle.waiting.proofs.WaitingList.look.Tie as tie
 -- a position below what the list holds is in the array
 in-array : (c : tie.Else1) → c .before .before .args .at < 64
 in-array c =
-    omega
-    (arith,
-    c .before .held .ensures,
-    held-places (c .before .before .args .t1) _ (c .before .before .good .0))
-
-held-requires : tie.Need-held-requires
-held-requires c κs = search needs
-
-blank-requires : tie.Need-blank-requires
-blank-requires c κs = search needs
+    omega (
+      arith,
+      c .before .held .ensures,
+      held-places (c .before .before .args .t1) _ (c .before .before .good .0),
+    )
 
 returns : tie.Need-returns
 unfolding lookAt
@@ -38,4 +33,4 @@ returns-2 c = simp (← c .before .before .held .ensures, lt-ltb _ _ (c .before 
 pub look-spec : {M : Type 1} → statement M
 look-spec =
     tie.close
-    (tie.spec held-requires blank-requires returns mul-result element-copy-out-result returns-2)
+    (tie.spec (λ c κs. search needs) (λ c κs. search needs) returns mul-result element-copy-out-result returns-2)

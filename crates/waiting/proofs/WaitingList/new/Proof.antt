@@ -7,12 +7,9 @@ use Rattle.waiting.specs.Waiting.{noneWait}
 use Rattle.waiting.proofs.WaitingList.new.Statement.{statement}
 use Rattle.waiting.proofs.WaitingList.new.Tie as tie
 
-blank-requires : tie.Need-blank-requires
-blank-requires c κs = search needs
-
 returns : tie.Need-returns
 unfolding noneWait
 returns c = ap (λ (p : Packet). record { packets = replicate limits.waiting p; count = 0 }) (c .blank .ensures)
 
 pub new-spec : {M : Type 1} → statement M
-new-spec = tie.close (tie.spec blank-requires returns)
+new-spec = tie.close (tie.spec (λ c κs. search needs) returns)

@@ -23,13 +23,11 @@ abbrev μ-loop : tie.MeasureT-loop
 -- in a turn both places are in the array
 in-turn : (c : tie.In-loop Inv-loop μ-loop) → c .before .loop .i + 1 < 64
 in-turn c =
-    omega
-    (arith,
-    c .before .before .before .held .ensures,
-    held-places (c .before .before .before .before .args .self) _ (c .before .before .before .before .good .0))
-
-held-requires : tie.Need-held-requires Inv-loop μ-loop
-held-requires c κs = search needs
+    omega (
+      arith,
+      c .before .before .before .held .ensures,
+      held-places (c .before .before .before .before .args .self) _ (c .before .before .before .before .good .0),
+    )
 
 returns : tie.Need-returns Inv-loop μ-loop
 unfolding takenOut
@@ -64,11 +62,12 @@ loop-less c = omega arith
 
 loop-again : tie.Need-loop-again Inv-loop μ-loop
 loop-again c =
-    let turn = c .before .before .loop in
-    (ap (λ (ps : List Packet). set ps (turn .i) (getD ps (turn .i + 1) blank)) (turn .inv .0) ∙
-    moves-turn blank _ _ (turn .i) (turn .inv .1),
-    omega arith,
-    omega arith)
+    let turn = c .before .before .loop in (
+      ap (λ (ps : List Packet). set ps (turn .i) (getD ps (turn .i + 1) blank)) (turn .inv .0) ∙
+          moves-turn blank _ _ (turn .i) (turn .inv .1),
+      omega arith,
+      omega arith,
+    )
 
 returns-2 : tie.Need-returns-2 Inv-loop μ-loop
 unfolding takenOut
@@ -86,7 +85,7 @@ take-out-spec =
     (tie.spec
     Inv-loop
     μ-loop
-    held-requires
+    (λ c κs. search needs)
     returns
     sub-last
     loop-holds
