@@ -1,2 +1,2 @@
--- The laws of closing a list up by one.
 pub mod Closing
+pub mod Index

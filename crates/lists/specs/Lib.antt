@@ -1,6 +1,8 @@
--- Lists that are closed up by one: how a loop does it, and what is left.
-use mathlib.Core.List.{List, _++_}
+-- Lists: closing one up by one element, and the place of a number.
+use mathlib.Core.Bool.{cond}
+use mathlib.Core.List.{List, [], _∷_, _++_}
 use Prim.Native.Nat.{ℕ, zero, suc, _+_}
+use lib.Dec.{eqb}
 use lib.ListN.{getD, set, take, drop}
 
 -- k elements, from place i up, each take the value of the place after it
@@ -11,3 +13,8 @@ moves d l i (suc k) = moves d (set l i (getD l (i + 1) d)) (i + 1) k
 -- l without the element at place i
 unfoldable pub without : {A : Type 0} → List A → ℕ → List A
 without l i = take i l ++ drop (suc i) l
+
+-- the first place at which a number stands, and the list's length where it stands at none
+unfoldable pub indexOf : List ℕ → ℕ → ℕ
+indexOf [] r = 0
+indexOf (q ∷ l) r = cond (eqb q r) 0 (suc (indexOf l r))
