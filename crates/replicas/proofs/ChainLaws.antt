@@ -1,25 +1,28 @@
--- The laws of the chain for the crates above: who is a member, and what each replica keeps, with no array in sight.
+-- The laws of the chain for the crates above, so that they never open its arrays: who is a member, and what each replica keeps.
 use mathlib.Core.Path.{_≡_, refl, sym, ap, _∙_}
 use mathlib.Core.Bool.{Bool, true, false, cond}
 use mathlib.Core.List.{List, [], _∷_, List·Memᴰ, Memᴰ·cast}
 use Prim.Native.Nat.{ℕ, zero, suc, _+_, _-_, _%_, _≤_, _<_, min}
-use native.Mathlib.Nat.{mod-lt}
+use native.Mathlib.Nat.{mod-lt, not-suc-le-zero, le-of-suc-le-suc}
+use native.Mathlib.Numerals.{add-one}
 use native.Mathlib.Omega.{arith}
-use lib.ListN.{length, getD, set, take, length-take, length-set, length-replicate, getD-replicate, List·getD-eq-default}
-use lib.Seq.{getD-take, getD-set-same, getD-set-other}
+use lib.Dec.{ltb}
+use lib.ListN.{length, getD, take, length-take, length-set, getD-replicate, List·getD-eq-default}
+use lib.Seq.{getD-set-same, getD-set-other}
 use borrow.Author.Tests.{ltb-true, ltb-false, lt-ltb, eqb-true}
 use Rattle.limits.specs as limits
-use Rattle.lists.specs.{moves, without}
+use Rattle.lists.specs.{without}
 use Rattle.lists.proofs.Closing.{length-moves, take-moves, length-without}
 use Rattle.stamp.specs.Stamps.{largerOf}
 use Rattle.replicas.specs.declared.Chain.{Chain}
 use Rattle.replicas.specs.declared.Write.{Write}
-use Rattle.replicas.specs.Chain.{members, liveCount, placeOf, isLive, memberAt, headOf, tailOf, chosenBy, rowOf, highestOf, permittedBy, appliedBy, permits, allPermit, permitting, removed, newChain}
-use Rattle.replicas.specs.Replicas.{World, accepts, applying, received, pending, advanced}
-use Rattle.replicas.proofs.Index.{index-at, in-index, at-in, all-member}
+use Rattle.replicas.specs.Chain.{members, liveCount, indexOf, placeOf, isLive, memberAt, headOf, tailOf, chosenBy, rowOf, highestOf}
+use Rattle.replicas.specs.Chain.{permittedBy, appliedBy, permits, allPermit, permitting, removed, newChain}
+use Rattle.replicas.specs.Replicas.{World, accepts, applying, received, pending, oldest, advanced}
+use Rattle.replicas.proofs.Index.{index-first, index-at, in-index, at-in, all-member}
 
 -- what holds of both ways of a test holds of its outcome
-by-test : {A : Type 0} (P : A → Type 0) (t : Bool) (x y : A) → (t ≡ true → P x) → (t ≡ false → P y) → P (cond t x y)
+pub by-test : {A : Type 0} (P : A → Type 0) (t : Bool) (x y : A) → (t ≡ true → P x) → (t ≡ false → P y) → P (cond t x y)
 by-test P true x y f g = f refl
 by-test P false x y f g = g refl
 
@@ -29,10 +32,12 @@ pub count-is : (c : Chain) → liveCount c ≡ min (c .live) (length (c .order))
 unfolding liveCount members
 count-is c = length-take (c .live) (c .order)
 
+-- so every law of `members` is one of `liveCount`
 pub count-members : (c : Chain) → liveCount c ≡ length (members c)
 unfolding liveCount
 count-members c = refl
 
+-- a list cut at its own length
 take-own : (n : ℕ) (l : List ℕ) → take (length (take n l)) l ≡ take n l
 take-own zero l = refl
 take-own (suc n) [] = refl
@@ -47,11 +52,7 @@ pub member-is : (c : Chain) (p : ℕ) → memberAt c p ≡ getD (members c) p 0
 unfolding memberAt
 member-is c p = refl
 
--- what the row holds at a place that is in use, and past it
-pub member-order : (c : Chain) (p : ℕ) → p < liveCount c → memberAt c p ≡ getD (c .order) p 0
-unfolding memberAt members
-member-order c p h = getD-take (c .live) (c .order) p 0 (omega (arith, count-is c))
-
+-- past the last live one there is none
 pub member-past : (c : Chain) (p : ℕ) → liveCount c ≤ p → memberAt c p ≡ 0
 unfolding memberAt liveCount
 member-past c p h = List·getD-eq-default (members c) 0 h
@@ -68,12 +69,18 @@ pub member-in : (c : Chain) (p : ℕ) → p < liveCount c → List·Memᴰ (memb
 unfolding memberAt liveCount
 member-in c p h = at-in (members c) p 0 h
 
+-- a choice among none, and a choice among some
+pub chosen-none : (c : Chain) (k : ℕ) → liveCount c ≡ 0 → chosenBy c k ≡ 0
+unfolding chosenBy
+chosen-none c k e = member-past c (k % liveCount c) (omega arith)
+
 pub chosen-in : (c : Chain) (k : ℕ) → 0 < liveCount c → List·Memᴰ (chosenBy c k) (members c)
 unfolding chosenBy
 chosen-in c k h = member-in c (k % liveCount c) (mod-lt k h)
 
 -- ---- who is live
 
+-- a live replica has a place in the chain, and one that is gone has none
 pub place-below : (c : Chain) (r : ℕ) → isLive c r ≡ true → placeOf c r < liveCount c
 unfolding isLive
 place-below c r e = ltb-true (placeOf c r) (liveCount c) e
@@ -86,12 +93,36 @@ pub place-at : (c : Chain) (r : ℕ) → isLive c r ≡ true → memberAt c (pla
 unfolding memberAt placeOf liveCount
 place-at c r e = index-at (members c) r (place-below c r e)
 
+-- the first that has the number is at its place
+pub place-found : (c : Chain) (i r : ℕ) → i < liveCount c → ((k : ℕ) → k < i → memberAt c k ≡ r → ⊥) → memberAt c i ≡ r → placeOf c r ≡ i
+unfolding placeOf liveCount memberAt
+place-found c i r h before e = index-first (members c) i r h before e
+
+-- a live replica is a member, and a member is live
 pub live-in : (c : Chain) (r : ℕ) → isLive c r ≡ true → List·Memᴰ r (members c)
 live-in c r e = Memᴰ·cast (sym (place-at c r e)) (member-in c (placeOf c r) (place-below c r e))
 
 pub in-live : (c : Chain) (r : ℕ) → List·Memᴰ r (members c) → isLive c r ≡ true
 unfolding isLive placeOf liveCount
 in-live c r m = lt-ltb (placeOf c r) (liveCount c) (in-index (members c) r m)
+
+-- a chain with the same members has the same shape
+module _ (c d : Chain) (e : members c ≡ members d) where
+  pub count-same : liveCount c ≡ liveCount d
+  unfolding liveCount
+  count-same = ap length e
+
+  pub member-same : (p : ℕ) → memberAt c p ≡ memberAt d p
+  unfolding memberAt
+  member-same p = ap (λ (l : List ℕ). getD l p 0) e
+
+  pub place-same : (r : ℕ) → placeOf c r ≡ placeOf d r
+  unfolding placeOf
+  place-same r = ap (λ (l : List ℕ). indexOf l r) e
+
+  pub live-same : (r : ℕ) → isLive c r ≡ isLive d r
+  unfolding isLive
+  live-same r = rw (place-same r, count-same)
 
 -- ---- rows
 
@@ -103,6 +134,7 @@ row-below r = omega arith
 abbrev pub Named : ℕ → Type 0
 Named r = (1 ≤ r) × (r ≤ limits.replicas)
 
+-- two numbers have two rows
 pub row-same : (q r : ℕ) → Named q → Named r → rowOf q ≡ rowOf r → q ≡ r
 unfolding rowOf
 row-same q r m n e = omega arith
@@ -121,7 +153,7 @@ Sized c =
 
 pub sized-new : (n : ℕ) → Sized (newChain n)
 unfolding newChain
-sized-new n = (refl, length-replicate limits.replicas 0, length-replicate limits.replicas 1, length-replicate limits.replicas 0)
+sized-new n = (refl, refl, refl, refl)
 
 pub sized-permitting : (c : Chain) (r number : ℕ) → Sized c → Sized (permitting c r number)
 unfolding permitting
@@ -142,7 +174,8 @@ sized-received u r w s =
 
 pub sized-advanced : (u : World) (r : ℕ) → Sized (u .chain) → Sized (advanced u r .chain)
 unfolding advanced
-sized-advanced u r s = by-test (λ v. Sized (v .chain)) _ _ u (λ e. sized-applying (u .chain) r _ s) (λ e. s)
+sized-advanced u r s =
+    by-test (λ v. Sized (v .chain)) (ltb 0 (pending (u .chain) r)) _ u (λ e. sized-applying (u .chain) r (oldest u r .stamp) s) (λ e. s)
 
 -- ---- the members after a change
 
@@ -158,6 +191,7 @@ pub members-applying : (c : Chain) (r stamp : ℕ) → members (applying c r sta
 unfolding members applying
 members-applying c r stamp = refl
 
+-- to remove one that is gone changes nothing, and to remove a live one closes the chain up
 pub removed-gone : (c : Chain) (r : ℕ) → isLive c r ≡ false → removed c r ≡ c
 unfolding removed
 removed-gone c r e = rw e
@@ -173,12 +207,39 @@ pub count-removed : (c : Chain) (r : ℕ) → isLive c r ≡ true → liveCount 
 unfolding liveCount
 count-removed c r e = ap length (members-removed c r e) ∙ length-without (members c) (placeOf c r) (place-below c r e)
 
+-- without one element: those before it stay, those behind it move up one place
+without-before : (l : List ℕ) (i k : ℕ) → k < i → getD (without l i) k 0 ≡ getD l k 0
+unfolding without
+without-before [] zero k h = absurd (not-suc-le-zero h)
+without-before [] (suc i) k h = refl
+without-before (x ∷ l) zero k h = absurd (not-suc-le-zero h)
+without-before (x ∷ l) (suc i) zero h = refl
+without-before (x ∷ l) (suc i) (suc k) h = without-before l i k (le-of-suc-le-suc h)
+
+without-behind : (l : List ℕ) (i k : ℕ) → i ≤ k → getD (without l i) k 0 ≡ getD l (suc k) 0
+unfolding without
+without-behind [] zero k h = refl
+without-behind [] (suc i) k h = refl
+without-behind (x ∷ l) zero k h = refl
+without-behind (x ∷ l) (suc i) zero h = absurd (not-suc-le-zero h)
+without-behind (x ∷ l) (suc i) (suc k) h = without-behind l i k (le-of-suc-le-suc h)
+
+pub member-removed-before : (c : Chain) (r p : ℕ) → isLive c r ≡ true → p < placeOf c r → memberAt (removed c r) p ≡ memberAt c p
+unfolding memberAt
+member-removed-before c r p e h = rw (members-removed c r e) (without-before (members c) (placeOf c r) p h)
+
+pub member-removed-behind : (c : Chain) (r p : ℕ) → isLive c r ≡ true → placeOf c r ≤ p → memberAt (removed c r) p ≡ memberAt c (p + 1)
+unfolding memberAt
+member-removed-behind c r p e h = rw (members-removed c r e, add-one) (without-behind (members c) (placeOf c r) p h)
+
 -- ---- what each replica keeps
 
+-- 'every live replica permits this switch's number'
 pub all-permit-in : (c : Chain) (number r : ℕ) → allPermit c number ≡ true → List·Memᴰ r (members c) → permittedBy c r ≡ number
 unfolding allPermit permits
 all-permit-in c number r e m = eqb-true (permittedBy c r) number (all-member (permits c number) (members c) r e m)
 
+-- at the start
 pub highest-new : (n r : ℕ) → highestOf (newChain n) r ≡ 0
 unfolding highestOf newChain
 highest-new n r = getD-replicate limits.replicas (rowOf r) 0 0 (row-below r)

@@ -2,3 +2,7 @@
 pub mod Index
 pub mod ChainLaws
 pub mod Places
+pub mod Cells
+pub mod Moves
+pub mod Descending
+pub mod Links

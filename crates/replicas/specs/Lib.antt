@@ -2,3 +2,4 @@
 pub mod Chain
 pub mod Store
 pub mod Replicas
+pub mod Links

@@ -44,11 +44,7 @@ fn entry_cell(field: usize, p: Position) -> usize
 pub fn clear(store: &mut [u32; CELLS])
     ensures { λ _. ⌜ now (store .exit) ≡ emptyStore ⌝ }
 {
-    let mut i: usize = 0;
-    while i < CELLS {
-        store[i] = 0;
-        i += 1;
-    }
+    *store = [0; CELLS];
 }
 
 pub fn read_value(store: &[u32; CELLS], r: Replica, o: Object) -> Value

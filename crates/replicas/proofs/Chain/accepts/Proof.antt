@@ -1,49 +1,73 @@
+use mathlib.Core.Path.{_≡_, sym, ap, _∙_}
+use mathlib.Core.Bool.{true}
 use borrow.Author.Needs.{needs}
+use borrow.Author.Tests.{le-leb, lt-leb, not-true, not-false}
+use Rattle.stamp.specs.Stamps.{isAbove}
+use Rattle.replicas.specs.Chain.{isLive, highestOf}
+use Rattle.replicas.specs.Replicas.{accepts}
 use Rattle.replicas.proofs.Chain.accepts.Statement.{statement}
 use Rattle.replicas.proofs.Chain.accepts.Tie as tie
-use Rattle.replicas.proofs.Chain.accepts.Reads as reads
-use Rattle.replicas.proofs.Chain.accepts.Lts as lts
-use Rattle.replicas.proofs.Chain.applied.Reads as applied-reads
-use Rattle.replicas.proofs.Chain.highest.Reads as highest-reads
-use Rattle.replicas.proofs.Chain.is_live.Reads as is-live-reads
-use Rattle.replicas.proofs.Chain.linked.Reads as linked-reads
-use Rattle.stamp.proofs.above.Reads as above-reads
 
--- src/lib.rt:56:13
+-- past the first branch the replica is live
+lives : (c : tie.Else1) → isLive (c .before .before .args .self) (c .before .before .args .r) ≡ true
+lives c = sym (c .before .is-live .ensures) ∙ not-false (c .before .is-live .result) (c .if1 .left)
+
+-- past the second the stamp is above its highest
+rises : (c : tie.Else2) →
+    isAbove (c .before .before .before .before .before .args .stamp)
+    (highestOf (c .before .before .before .before .before .args .self) (c .before .before .before .before .before .args .r)) ≡
+    true
+rises c =
+    ap (isAbove (c .before .before .before .before .before .args .stamp)) (sym (c .before .before .highest .ensures)) ∙
+    sym (c .before .above .ensures) ∙
+    not-false (c .before .above .result) (c .if2 .left)
+
 is-live-requires : tie.Need-is-live-requires
 is-live-requires c κs = search needs
 
--- src/lib.rt:57:13
 returns : tie.Need-returns
-returns c = ?
+unfolding accepts
+returns c = simp (← c .before .is-live .ensures, not-true (c .before .is-live .result) (c .if1 .taken))
 
--- src/lib.rt:59:33
 highest-requires : tie.Need-highest-requires
 highest-requires c κs = search needs
 
--- src/lib.rt:59:13
 above-requires : tie.Need-above-requires
 above-requires c κs = search needs
 
--- src/lib.rt:60:13
 returns-2 : tie.Need-returns-2
-returns-2 c = ?
+unfolding accepts
+returns-2 c =
+    simp
+    (lives (c .before .before .before),
+    ← c .before .before .highest .ensures,
+    ← c .before .above .ensures,
+    not-true (c .before .above .result) (c .if2 .taken))
 
--- src/lib.rt:62:18
 linked-requires : tie.Need-linked-requires
 linked-requires c κs = search needs
 
--- src/lib.rt:63:13
 returns-3 : tie.Need-returns-3
-returns-3 c = ?
+unfolding accepts
+returns-3 c =
+    simp
+    (lives (c .before .before .before .before .before),
+    rises (c .before .before),
+    ← c .before .linked .ensures,
+    le-leb _ _ (c .if3 .taken))
 
--- src/lib.rt:65:9
 applied-requires : tie.Need-applied-requires
 applied-requires c κs = search needs
 
--- src/lib.rt:53:5
 returns-4 : tie.Need-returns-4
-returns-4 c = ?
+unfolding accepts
+returns-4 c =
+    simp
+    (lives (c .before .before .before .before .before .before),
+    rises (c .before .before .before),
+    ← c .before .before .linked .ensures,
+    lt-leb _ _ (c .before .if3 .left),
+    ← c .applied .ensures)
 
 pub accepts-spec : {M : Type 1} → statement M
 accepts-spec =

@@ -1,51 +1,59 @@
+-- The loop's invariant: each of the first i replicas permits the switch.
+use mathlib.Core.Path.{_≡_, sym, _∙_}
+use mathlib.Core.Bool.{true}
+use Prim.Native.Nat.{ℕ, _-_, _≤_, _<_}
+use native.Mathlib.Omega.{arith}
+use lib.ListN.{getD}
+use borrow.Author.Count.{below-more, below-none}
+use borrow.Author.Needs.{needs}
+use borrow.Author.Tests.{not-true, not-false}
+use Rattle.replicas.specs.Chain.{permits}
+use Rattle.replicas.proofs.Places.{count-places, permit-all, permit-lacks}
 use Rattle.replicas.proofs.Chain.all_permit.Statement.{statement}
 use Rattle.replicas.proofs.Chain.all_permit.Tie as tie
-use Rattle.replicas.proofs.Chain.all_permit.Reads as reads
-use Rattle.replicas.proofs.Chain.all_permit.Lts as lts
-use Rattle.replicas.proofs.Chain.count.Reads as count-reads
-use Rattle.replicas.proofs.Chain.permits.Reads as permits-reads
 
 abbrev Inv-loop : tie.InvT-loop
-Inv-loop self number n order i₀ i = ?
+Inv-loop self number n order i₀ i = (i ≤ n) × ((k : ℕ) → k < i → permits self number (getD order k 0) ≡ true)
 
 abbrev μ-loop : tie.MeasureT-loop
-μ-loop self number n order i₀ i = ?
+μ-loop self number n order i₀ i = n - i
 
--- src/shape.rt:131:13
 count-requires : tie.Need-count-requires Inv-loop μ-loop
-count-requires c κs = ?
+count-requires c κs = search needs
 
--- src/shape.rt:134:9
 loop-holds : tie.Need-loop-holds Inv-loop μ-loop
-loop-holds c = ?
+loop-holds c = (omega arith, below-none _)
 
--- src/shape.rt:135:38
 array-read-permits : tie.Need-array-read-permits Inv-loop μ-loop
-array-read-permits c = ?
+array-read-permits c =
+    let start = c .before .before .before .before in
+    omega (arith, c .before .before .before .count .ensures, count-places (start .args .self) _ (start .good .0))
 
--- src/shape.rt:135:17
 permits-requires : tie.Need-permits-requires Inv-loop μ-loop
-permits-requires c κs = ?
+permits-requires c κs = search needs
 
--- src/shape.rt:136:17
 returns : tie.Need-returns Inv-loop μ-loop
-returns c = ?
+returns c =
+    let start = c .before .before .before .before .before .before .args in
+    sym (permit-lacks (start .self) (start .number) (c .before .before .before .loop .i) (omega arith)
+    (sym (c .before .permits .ensures) ∙ not-true (c .before .permits .result) (c .if1 .taken)))
 
--- src/shape.rt:138:13
 add-i : tie.Need-add-i Inv-loop μ-loop
-add-i c = ?
+add-i c = search needs
 
--- src/shape.rt:134:9
 loop-less : tie.Need-loop-less Inv-loop μ-loop
-loop-less c = ?
+loop-less c = search needs
 
--- src/shape.rt:134:9
 loop-again : tie.Need-loop-again Inv-loop μ-loop
-loop-again c = ?
+loop-again c =
+    (omega arith, below-more _ _ (c .before .before .before .loop .inv .1)
+    (sym (c .before .permits .ensures) ∙ not-false (c .before .permits .result) (c .if1 .left)))
 
--- src/shape.rt:128:5
 returns-2 : tie.Need-returns-2 Inv-loop μ-loop
-returns-2 c = ?
+returns-2 c =
+    let start = c .before .before .before .before .args in
+    sym (permit-all (start .self) (start .number)
+    (λ k b. c .before .loop .inv .1 k (omega (arith, c .before .before .before .count .ensures))))
 
 pub all-permit-spec : {M : Type 1} → statement M
 all-permit-spec =

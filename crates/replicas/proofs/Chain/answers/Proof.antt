@@ -1,35 +1,42 @@
+use mathlib.Core.Path.{_≡_, sym, ap, _∙_}
+use mathlib.Core.Bool.{Bool, true, false, cond}
 use borrow.Author.Needs.{needs}
+use borrow.Author.Tests.{ne-eqb, eq-eqb}
+use Rattle.replicas.specs.Replicas.{world, answersDirect}
 use Rattle.replicas.proofs.Chain.answers.Statement.{statement}
 use Rattle.replicas.proofs.Chain.answers.Tie as tie
-use Rattle.replicas.proofs.Chain.answers.Reads as reads
-use Rattle.replicas.proofs.Chain.answers.Lts as lts
-use Rattle.replicas.proofs.Chain.permitted.Reads as permitted-reads
-use Rattle.replicas.proofs.store.read_stamp.Reads as read-stamp-reads
-use Rattle.stamp.proofs.above.Reads as above-reads
 
--- src/lib.rt:137:12
+-- past the first branch the stamps decide
+decides : (c : tie.After-above) →
+    let start = c .before .before .before .before .args in
+    answersDirect (world (start .self) (start .store .now)) (start .r) (start .o) (start .number) (start .carried) ≡
+    cond (c .above .result) false true
+unfolding answersDirect
+decides c =
+    simp
+    (← c .before .before .before .permitted .ensures,
+    eq-eqb _ _ (c .before .before .if1 .left),
+    ← c .before .read-stamp .ensures,
+    ← c .above .ensures)
+
 permitted-requires : tie.Need-permitted-requires
 permitted-requires c κs = search needs
 
--- src/lib.rt:138:13
 returns : tie.Need-returns
-returns c = ?
+unfolding answersDirect
+returns c = simp (← c .before .permitted .ensures, ne-eqb _ _ (c .if1 .taken))
 
--- src/lib.rt:140:25
 read-stamp-requires : tie.Need-read-stamp-requires
 read-stamp-requires c κs = search needs
 
--- src/lib.rt:140:12
 above-requires : tie.Need-above-requires
 above-requires c κs = search needs
 
--- src/lib.rt:141:13
 returns-2 : tie.Need-returns-2
-returns-2 c = ?
+returns-2 c = sym (decides (c .before) ∙ ap (λ (t : Bool). cond t false true) (c .if2 .taken))
 
--- src/lib.rt:134:5
 returns-3 : tie.Need-returns-3
-returns-3 c = ?
+returns-3 c = sym (decides (c .before) ∙ ap (λ (t : Bool). cond t false true) (c .if2 .left))
 
 pub answers-spec : {M : Type 1} → statement M
 answers-spec =

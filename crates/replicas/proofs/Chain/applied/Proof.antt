@@ -1,5 +1,5 @@
-use Rattle.replicas.specs.Chain.{appliedBy}
 use borrow.Author.Needs.{needs}
+use Rattle.replicas.specs.Chain.{appliedBy}
 use Rattle.replicas.proofs.Chain.applied.Statement.{statement}
 use Rattle.replicas.proofs.Chain.applied.Tie as tie
 

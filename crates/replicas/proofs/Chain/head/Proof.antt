@@ -1,5 +1,5 @@
-use Rattle.replicas.specs.Chain.{headOf}
 use borrow.Author.Needs.{needs}
+use Rattle.replicas.specs.Chain.{headOf}
 use Rattle.replicas.proofs.Chain.head.Statement.{statement}
 use Rattle.replicas.proofs.Chain.head.Tie as tie
 

@@ -1,5 +1,5 @@
-use Rattle.replicas.specs.Chain.{highestOf}
 use borrow.Author.Needs.{needs}
+use Rattle.replicas.specs.Chain.{highestOf}
 use Rattle.replicas.proofs.Chain.highest.Statement.{statement}
 use Rattle.replicas.proofs.Chain.highest.Tie as tie
 

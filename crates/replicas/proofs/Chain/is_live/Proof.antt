@@ -1,5 +1,5 @@
-use Rattle.replicas.specs.Chain.{isLive}
 use borrow.Author.Needs.{needs}
+use Rattle.replicas.specs.Chain.{isLive}
 use Rattle.replicas.proofs.Chain.is_live.Statement.{statement}
 use Rattle.replicas.proofs.Chain.is_live.Tie as tie
 

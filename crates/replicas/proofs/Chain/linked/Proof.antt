@@ -1,35 +1,39 @@
+use mathlib.Core.Path.{_≡_, sym}
+use Prim.Native.Nat.{_-_}
+use native.Mathlib.Omega.{arith}
 use borrow.Author.Needs.{needs}
+use Rattle.replicas.specs.Replicas.{linkedWrites}
 use Rattle.replicas.proofs.Chain.linked.Statement.{statement}
 use Rattle.replicas.proofs.Chain.linked.Tie as tie
-use Rattle.replicas.proofs.Chain.linked.Reads as reads
-use Rattle.replicas.proofs.Chain.linked.Lts as lts
-use Rattle.replicas.proofs.Chain.applied.Reads as applied-reads
-use Rattle.replicas.proofs.Chain.head.Reads as head-reads
-use Rattle.replicas.proofs.Chain.tail.Reads as tail-reads
 
--- src/lib.rt:44:34
+-- what the four calls give
+between : (c : tie.After-applied2) →
+    linkedWrites (c .before .before .before .before .args .self) ≡ c .before .before .applied .result - c .applied2 .result
+unfolding linkedWrites
+between c =
+    simp
+    (← c .before .before .before .head .ensures,
+    ← c .before .before .applied .ensures,
+    ← c .before .tail .ensures,
+    ← c .applied2 .ensures)
+
 head-requires : tie.Need-head-requires
 head-requires c κs = search needs
 
--- src/lib.rt:44:13
 applied-requires : tie.Need-applied-requires
 applied-requires c κs = search needs
 
--- src/lib.rt:45:33
 tail-requires : tie.Need-tail-requires
 tail-requires c κs = search needs
 
--- src/lib.rt:45:13
 applied-requires-2 : tie.Need-applied-requires-2
 applied-requires-2 c κs = search needs
 
--- src/lib.rt:47:13
 returns : tie.Need-returns
-returns c = ?
+returns c = omega (arith, between (c .before))
 
--- src/lib.rt:41:5
 returns-2 : tie.Need-returns-2
-returns-2 c = ?
+returns-2 c = sym (between (c .before))
 
 pub linked-spec : {M : Type 1} → statement M
 linked-spec =

@@ -1,25 +1,22 @@
+use mathlib.Core.Path.{sym}
+use native.Mathlib.Omega.{arith}
 use borrow.Author.Needs.{needs}
+use Rattle.replicas.proofs.ChainLaws.{member-past}
+use Rattle.replicas.proofs.Places.{count-places, member-order}
 use Rattle.replicas.proofs.Chain.member.Statement.{statement}
 use Rattle.replicas.proofs.Chain.member.Tie as tie
-use Rattle.replicas.proofs.Chain.member.Reads as reads
-use Rattle.replicas.proofs.Chain.member.Lts as lts
-use Rattle.replicas.proofs.Chain.count.Reads as count-reads
 
--- src/shape.rt:42:13
 count-requires : tie.Need-count-requires
 count-requires c κs = search needs
 
--- src/shape.rt:44:13
 returns : tie.Need-returns
-returns c = ?
+returns c = sym (member-past (c .before .before .args .t1) (c .before .before .args .place) (omega arith))
 
--- src/shape.rt:46:9
 element-copy-out-result : tie.Need-element-copy-out-result
-element-copy-out-result c = ?
+element-copy-out-result c = omega (arith, c .before .count .ensures, count-places (c .before .before .args .t1) _ (c .before .before .good .0))
 
--- src/shape.rt:39:5
 returns-2 : tie.Need-returns-2
-returns-2 c = ?
+returns-2 c = sym (member-order (c .before .before .before .args .t1) (c .before .before .before .args .place) (omega arith))
 
 pub member-spec : {M : Type 1} → statement M
 member-spec = tie.close (tie.spec count-requires returns element-copy-out-result returns-2)

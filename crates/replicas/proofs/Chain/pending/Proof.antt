@@ -1,52 +1,64 @@
+use mathlib.Core.Path.{_≡_, sym, _∙_}
+use mathlib.Core.Bool.{true}
+use Prim.Native.Nat.{_-_}
+use native.Mathlib.Omega.{arith}
 use borrow.Author.Needs.{needs}
+use borrow.Author.Tests.{eq-eqb, ne-eqb, not-true, not-false}
+use Rattle.replicas.specs.Chain.{isLive}
+use Rattle.replicas.specs.Replicas.{pending}
 use Rattle.replicas.proofs.Chain.pending.Statement.{statement}
 use Rattle.replicas.proofs.Chain.pending.Tie as tie
-use Rattle.replicas.proofs.Chain.pending.Reads as reads
-use Rattle.replicas.proofs.Chain.pending.Lts as lts
-use Rattle.replicas.proofs.Chain.applied.Reads as applied-reads
-use Rattle.replicas.proofs.Chain.is_live.Reads as is-live-reads
-use Rattle.replicas.proofs.Chain.member.Reads as member-reads
-use Rattle.replicas.proofs.Chain.place.Reads as place-reads
 
--- src/lib.rt:98:13
+-- past the first branch the replica is live
+lives : (c : tie.Else1) → isLive (c .before .before .args .self) (c .before .before .args .r) ≡ true
+lives c = sym (c .before .is-live .ensures) ∙ not-false (c .before .is-live .result) (c .if1 .left)
+
+-- past the second it has one before it
+behind : (c : tie.After-applied2) →
+    pending (c .before .before .before .before .before .before .before .args .self)
+    (c .before .before .before .before .before .before .before .args .r) ≡
+    c .before .applied .result - c .applied2 .result
+unfolding pending
+behind c =
+    simp
+    (lives (c .before .before .before .before .before),
+    ← c .before .before .before .before .place .ensures,
+    ne-eqb _ _ (c .before .before .before .if2 .left),
+    ← c .before .before .member .ensures,
+    ← c .before .applied .ensures,
+    ← c .applied2 .ensures)
+
 is-live-requires : tie.Need-is-live-requires
 is-live-requires c κs = search needs
 
--- src/lib.rt:99:13
 returns : tie.Need-returns
-returns c = ?
+unfolding pending
+returns c = simp (← c .before .is-live .ensures, not-true (c .before .is-live .result) (c .if1 .taken))
 
--- src/lib.rt:101:13
 place-requires : tie.Need-place-requires
 place-requires c κs = search needs
 
--- src/lib.rt:103:13
 returns-2 : tie.Need-returns-2
-returns-2 c = ?
+unfolding pending
+returns-2 c = simp (lives (c .before .before), ← c .before .place .ensures, eq-eqb _ _ (c .if2 .taken))
 
--- src/lib.rt:105:47
 sub-member : tie.Need-sub-member
 sub-member c = search needs
 
--- src/lib.rt:105:35
 member-requires : tie.Need-member-requires
 member-requires c κs = search needs
 
--- src/lib.rt:105:13
 applied-requires : tie.Need-applied-requires
 applied-requires c κs = search needs
 
--- src/lib.rt:106:13
 applied-requires-2 : tie.Need-applied-requires-2
 applied-requires-2 c κs = search needs
 
--- src/lib.rt:108:13
 returns-3 : tie.Need-returns-3
-returns-3 c = ?
+returns-3 c = omega (arith, behind (c .before))
 
--- src/lib.rt:95:5
 returns-4 : tie.Need-returns-4
-returns-4 c = ?
+returns-4 c = sym (behind (c .before))
 
 pub pending-spec : {M : Type 1} → statement M
 pending-spec =

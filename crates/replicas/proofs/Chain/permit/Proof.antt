@@ -1,5 +1,5 @@
-use Rattle.replicas.specs.Chain.{permitting}
 use borrow.Author.Needs.{needs}
+use Rattle.replicas.specs.Chain.{permitting}
 use Rattle.replicas.proofs.Chain.permit.Statement.{statement}
 use Rattle.replicas.proofs.Chain.permit.Tie as tie
 

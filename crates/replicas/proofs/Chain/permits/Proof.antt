@@ -1,5 +1,5 @@
-use Rattle.replicas.specs.Chain.{permits}
 use borrow.Author.Needs.{needs}
+use Rattle.replicas.specs.Chain.{permits}
 use Rattle.replicas.proofs.Chain.permits.Statement.{statement}
 use Rattle.replicas.proofs.Chain.permits.Tie as tie
 

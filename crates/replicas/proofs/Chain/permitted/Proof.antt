@@ -1,5 +1,5 @@
-use Rattle.replicas.specs.Chain.{permittedBy}
 use borrow.Author.Needs.{needs}
+use Rattle.replicas.specs.Chain.{permittedBy}
 use Rattle.replicas.proofs.Chain.permitted.Statement.{statement}
 use Rattle.replicas.proofs.Chain.permitted.Tie as tie
 

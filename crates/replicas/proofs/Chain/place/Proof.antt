@@ -1,46 +1,51 @@
+-- The loop's invariant: the replica is at none of the first i places.
+use mathlib.Core.Path.{_≡_, sym, _∙_}
+use Prim.Native.Nat.{ℕ, _-_, _≤_, _<_}
+use native.Mathlib.Omega.{arith}
+use lib.ListN.{getD}
+use borrow.Author.Count.{below-more, below-none}
+use borrow.Author.Needs.{needs}
+use Rattle.replicas.proofs.Places.{count-places, place-first, place-none}
 use Rattle.replicas.proofs.Chain.place.Statement.{statement}
 use Rattle.replicas.proofs.Chain.place.Tie as tie
-use Rattle.replicas.proofs.Chain.place.Reads as reads
-use Rattle.replicas.proofs.Chain.place.Lts as lts
-use Rattle.replicas.proofs.Chain.count.Reads as count-reads
 
 abbrev Inv-loop : tie.InvT-loop
-Inv-loop r n order i₀ i = ?
+Inv-loop r n order i₀ i = (i ≤ n) × ((k : ℕ) → k < i → getD order k 0 ≡ r → ⊥)
 
 abbrev μ-loop : tie.MeasureT-loop
-μ-loop r n order i₀ i = ?
+μ-loop r n order i₀ i = n - i
 
--- src/shape.rt:80:13
 count-requires : tie.Need-count-requires Inv-loop μ-loop
-count-requires c κs = ?
+count-requires c κs = search needs
 
--- src/shape.rt:83:9
 loop-holds : tie.Need-loop-holds Inv-loop μ-loop
-loop-holds c = ?
+loop-holds c = (omega arith, below-none _)
 
--- src/shape.rt:84:16
 array-read-if1 : tie.Need-array-read-if1 Inv-loop μ-loop
-array-read-if1 c = ?
+array-read-if1 c =
+    let start = c .before .before .before .before in
+    omega (arith, c .before .before .before .count .ensures, count-places (start .args .self) _ (start .good .0))
 
--- src/shape.rt:85:17
 returns : tie.Need-returns Inv-loop μ-loop
-returns c = ?
+returns c =
+    let start = c .before .before .before .before .before in
+    let turn = c .before .before .loop in
+    sym (place-first (start .args .self) (turn .i) (start .args .r) (omega arith) (turn .inv .1) (c .if1 .taken))
 
--- src/shape.rt:87:13
 add-i : tie.Need-add-i Inv-loop μ-loop
-add-i c = ?
+add-i c = search needs
 
--- src/shape.rt:83:9
 loop-less : tie.Need-loop-less Inv-loop μ-loop
-loop-less c = ?
+loop-less c = search needs
 
--- src/shape.rt:83:9
 loop-again : tie.Need-loop-again Inv-loop μ-loop
-loop-again c = ?
+loop-again c = (omega arith, below-more _ _ (c .before .before .loop .inv .1) (c .if1 .left))
 
--- src/shape.rt:77:5
 returns-2 : tie.Need-returns-2 Inv-loop μ-loop
-returns-2 c = ?
+returns-2 c =
+    let start = c .before .before .before .before .args in
+    c .before .before .before .count .ensures ∙
+    sym (place-none (start .self) (start .r) (λ k b. c .before .loop .inv .1 k (omega (arith, c .before .before .before .count .ensures))))
 
 pub place-spec : {M : Type 1} → statement M
 place-spec =

@@ -1,41 +1,54 @@
+use mathlib.Core.Path.{_≡_, sym, ap, _∙_}
+use mathlib.Core.Bool.{true}
+use mathlib.Core.List.{List}
+use Prim.Native.Nat.{ℕ}
 use borrow.Author.Needs.{needs}
+use borrow.Author.Tests.{not-true, not-false}
+use Rattle.replicas.specs.Store.{written, logged}
+use Rattle.replicas.specs.Replicas.{World, world, accepts}
+use Rattle.replicas.proofs.Moves.{accepts-position, received-taken, received-dropped}
 use Rattle.replicas.proofs.Chain.receive.Statement.{statement}
 use Rattle.replicas.proofs.Chain.receive.Tie as tie
-use Rattle.replicas.proofs.Chain.receive.Reads as reads
-use Rattle.replicas.proofs.Chain.receive.Lts as lts
-use Rattle.replicas.proofs.Chain.accepts.Reads as accepts-reads
-use Rattle.replicas.proofs.Chain.applied.Reads as applied-reads
-use Rattle.replicas.proofs.Chain.apply.Reads as apply-reads
-use Rattle.replicas.proofs.store.put_entry.Reads as put-entry-reads
-use Rattle.replicas.proofs.store.put_write.Reads as put-write-reads
 
--- src/lib.rt:86:13
+-- past the first branch the write is taken
+taken : (c : tie.Else1) → accepts (c .before .before .args .self) (c .before .before .args .r) (c .before .before .args .w .stamp) ≡ true
+taken c = sym (c .before .accepts .ensures) ∙ not-false (c .before .accepts .result) (c .if1 .left)
+
 accepts-requires : tie.Need-accepts-requires
 accepts-requires c κs = search needs
 
--- src/lib.rt:87:13
 returns : tie.Need-returns
-returns c = ?
+returns c =
+    let start = c .before .before .args in
+    let same = received-dropped (world (start .self) (start .store .now)) (start .r) (start .w)
+        (sym (c .before .accepts .ensures) ∙ not-true (c .before .accepts .result) (c .if1 .taken)) in
+    (sym (ap (λ (u : World). u .chain) same), sym (ap (λ (u : World). u .store) same))
 
--- src/lib.rt:89:39
 applied-requires : tie.Need-applied-requires
 applied-requires c κs = search needs
 
--- src/lib.rt:89:9
 put-entry-requires : tie.Need-put-entry-requires
 put-entry-requires c κs = search needs
 
--- src/lib.rt:90:9
 put-write-requires : tie.Need-put-write-requires
 put-write-requires c κs = search needs
 
--- src/lib.rt:91:9
 apply-requires : tie.Need-apply-requires
-apply-requires c κs = ?
+apply-requires c κs =
+    let start = c .before .before .before .before .before .before .before .args in
+    accepts-position (start .self) (start .r) (start .w .stamp) (taken (c .before .before .before .before .before))
 
--- src/lib.rt:82:5
 returns-2 : tie.Need-returns-2
-returns-2 c = ?
+returns-2 c =
+    let start = c .before .before .before .before .before .before .before .before .args in
+    let same = received-taken (world (start .self) (start .store .now)) (start .r) (start .w)
+        (taken (c .before .before .before .before .before .before)) in
+    (c .apply .ensures ∙ sym (ap (λ (u : World). u .chain) same),
+    c .before .put-write .ensures ∙
+    ap (λ (s : List ℕ). written s (start .r) (start .w))
+    (c .before .before .before .put-entry .ensures ∙
+    ap (λ (p : ℕ). logged (start .store .now) p (start .w)) (c .before .before .before .before .applied .ensures)) ∙
+    sym (ap (λ (u : World). u .store) same))
 
 pub receive-spec : {M : Type 1} → statement M
 receive-spec =

@@ -1,63 +1,90 @@
+-- The loop's invariant: the chain so far is the one at the start, of which the places from `at` to i have moved up.
+use mathlib.Core.Path.{_≡_, sym, ap, _∙_}
+use mathlib.Core.List.{List}
+use Prim.Native.Nat.{ℕ, _+_, _-_, _≤_, _<_}
+use native.Mathlib.Omega.{arith}
+use lib.ListN.{set, getD}
+use borrow.Author.Needs.{needs}
+use borrow.Author.Tests.{lt-ltb, le-ltb}
+use Rattle.lists.specs.{moves}
+use Rattle.lists.proofs.Closing.{moves-none, moves-turn}
+use Rattle.replicas.specs.declared.Chain.{Chain}
+use Rattle.replicas.specs.Chain.{isLive, removed}
+use Rattle.replicas.proofs.Places.{count-places}
 use Rattle.replicas.proofs.Chain.remove.Statement.{statement}
 use Rattle.replicas.proofs.Chain.remove.Tie as tie
-use Rattle.replicas.proofs.Chain.remove.Reads as reads
-use Rattle.replicas.proofs.Chain.remove.Lts as lts
-use Rattle.replicas.proofs.Chain.count.Reads as count-reads
-use Rattle.replicas.proofs.Chain.place.Reads as place-reads
+
+-- the chain with another shape
+abbrev shaped : Chain → ℕ → List ℕ → Chain
+shaped c n l = record { live = n; order = l; highest = c .highest; permits = c .permits; applied = c .applied }
 
 abbrev Inv-loop : tie.InvT-loop
-Inv-loop r n at last next₀ i₀ next i = ?
+Inv-loop r n at last next₀ i₀ next i = (next ≡ shaped next₀ (next₀ .live) (moves 0 (next₀ .order) at (i - at))) × (at ≤ i) × (i ≤ last)
 
 abbrev μ-loop : tie.MeasureT-loop
-μ-loop r n at last next₀ i₀ next i = ?
+μ-loop r n at last next₀ i₀ next i = last - i
 
--- src/shape.rt:155:13
+-- in a turn both places are in the array
+in-turn : (c : tie.In-loop Inv-loop μ-loop) → c .before .loop .i + 1 < 8
+in-turn c =
+    let start = c .before .before .before .before .before in
+    omega (arith, c .before .before .before .before .count .ensures, count-places (start .args .self) _ (start .good .0))
+
 count-requires : tie.Need-count-requires Inv-loop μ-loop
-count-requires c κs = ?
+count-requires c κs = search needs
 
--- src/shape.rt:156:13
 place-requires : tie.Need-place-requires Inv-loop μ-loop
-place-requires c κs = ?
+place-requires c κs = search needs
 
--- src/shape.rt:158:13
 returns : tie.Need-returns Inv-loop μ-loop
-returns c = ?
+unfolding removed isLive
+returns c = simp (← c .before .before .count .ensures, ← c .before .place .ensures, le-ltb _ _ (c .if1 .taken))
 
--- src/shape.rt:160:20
 sub-last : tie.Need-sub-last Inv-loop μ-loop
-sub-last c = ?
+sub-last c = omega arith
 
--- src/shape.rt:163:9
 loop-holds : tie.Need-loop-holds Inv-loop μ-loop
-loop-holds c = ?
+loop-holds c =
+    let self = c .before .before .before .args .self in
+    (ap (shaped self (self .live)) (sym (moves-none 0 _ _)), omega arith, omega arith)
 
--- src/shape.rt:164:32
 add-q : tie.Need-add-q Inv-loop μ-loop
-add-q c = ?
+add-q c = omega (arith, in-turn c)
 
--- src/shape.rt:164:21
 element-copy-out-q : tie.Need-element-copy-out-q Inv-loop μ-loop
-element-copy-out-q c = ?
+element-copy-out-q c = omega (arith, in-turn c)
 
--- src/shape.rt:165:13
 element-write-next : tie.Need-element-write-next Inv-loop μ-loop
-element-write-next c = ?
+element-write-next c = omega (arith, in-turn (c .before))
 
--- src/shape.rt:166:13
 add-i : tie.Need-add-i Inv-loop μ-loop
-add-i c = ?
+add-i c = omega (arith, in-turn (c .before))
 
--- src/shape.rt:163:9
 loop-less : tie.Need-loop-less Inv-loop μ-loop
-loop-less c = ?
+loop-less c = omega arith
 
--- src/shape.rt:163:9
 loop-again : tie.Need-loop-again Inv-loop μ-loop
-loop-again c = ?
+loop-again c =
+    let self = c .before .before .before .before .before .before .args .self in
+    let turn = c .before .before .loop in
+    (ap (λ (d : Chain). shaped d (d .live) (set (d .order) (turn .i) (getD (d .order) (turn .i + 1) 0))) (turn .inv .0) ∙
+    ap (shaped self (self .live)) (moves-turn 0 _ _ (turn .i) (turn .inv .1)),
+    omega arith,
+    omega arith)
 
--- src/shape.rt:152:5
 returns-2 : tie.Need-returns-2 Inv-loop μ-loop
-returns-2 c = ?
+unfolding removed isLive
+returns-2 c =
+    let self = c .before .before .before .before .before .args .self in
+    let n = c .before .before .before .before .count .result in
+    let at = c .before .before .before .place .result in
+    let all : c .before .loop .i - at ≡ n - 1 - at = omega arith in
+    simp
+    (← c .before .before .before .before .count .ensures,
+    ← c .before .before .before .place .ensures,
+    lt-ltb _ _ (c .before .before .if1 .left))
+    (ap (λ (d : Chain). shaped d (n - 1) (d .order)) (c .before .loop .inv .0) ∙
+    ap (λ (k : ℕ). shaped self (n - 1) (moves 0 (self .order) at k)) all)
 
 pub remove-spec : {M : Type 1} → statement M
 remove-spec =

@@ -1,5 +1,5 @@
-use Rattle.replicas.specs.Store.{written}
 use borrow.Author.Needs.{needs}
+use Rattle.replicas.specs.Store.{written}
 use Rattle.replicas.proofs.store.put_write.Statement.{statement}
 use Rattle.replicas.proofs.store.put_write.Tie as tie
 

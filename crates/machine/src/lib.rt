@@ -1,0 +1,184 @@
+// The step machine of document 01: one step at a time, over a state by value, a waiting list, and a store and open operations that the caller lends.
+ghost use mathlib.Core.Path.{_≡_};
+ghost use Rattle.protocol.specs.Answers.{refusalNumber};
+ghost use Rattle.protocol.specs.Decisions.{given};
+ghost use Rattle.protocol.specs.Steps.{startRefused, startState, startAnswer, startStore, startOpens, delivered, positionOf, decided, machine, answerTo, after};
+pub mod decisions;
+pub mod delivery;
+pub mod messages;
+pub mod steps;
+use limits::OPEN;
+use limits::Object;
+use limits::Operation;
+use replicas::CELLS;
+use replicas::Chain;
+use replicas::store;
+use switch::Switch;
+use protocol::Answer;
+use protocol::Decision;
+use protocol::Message;
+use protocol::Refusal;
+use protocol::State;
+use protocol::Step;
+use protocol::Stepped;
+use waiting::Packet;
+use waiting::WaitingList;
+
+// The number that document 01 gives a refusal.
+pub fn refusal_number(r: Refusal) -> u8
+    ensures { λ x. ⌜ x ≡ refusalNumber r ⌝ }
+{
+    match r {
+        Refusal::Format => 1,
+        Refusal::Replicas => 2,
+        Refusal::ObjectNumber => 3,
+        Refusal::OperationsUsedUp => 4,
+        Refusal::OpenFull => 5,
+        Refusal::WaitingFull => 6,
+        Refusal::NoPacket => 7,
+        Refusal::UnstampedRepeat => 8,
+        Refusal::NotLive => 9,
+        Refusal::NoLinkedWrite => 10,
+        Refusal::SwitchNumber => 11,
+        Refusal::LastReplica => 12,
+        Refusal::NotOpen => 13,
+        Refusal::InputTooLong => 14,
+        Refusal::BufferTooShort => 15,
+    }
+}
+
+// Whether a start with n replicas is refused, by 2.
+pub fn start_refused(n: u8) -> bool
+    ensures { λ r. ⌜ r ≡ startRefused n ⌝ }
+{
+    if n == 0 {
+        return true;
+    }
+    8 < n
+}
+
+fn start_state(n: u8) -> State
+    ensures { λ r. ⌜ r ≡ startState n ⌝ }
+{
+    State {
+        switch: Switch::new(1),
+        chain: Chain::new(n as usize),
+        last: 0,
+    }
+}
+
+// A start with n replicas: an empty store with no operation open and no packet waiting. After a refusal the lent buffers hold what they held; the state
+// that is handed back is then of no use.
+pub fn start(n: u8, cells: &mut [u32; CELLS], opens: &mut [Operation; OPEN]) -> Stepped
+    ensures { λ r. ⌜ (r ≡ startAnswer n)
+        × (now (cells .exit) ≡ startStore n (now (cells .entry)))
+        × (now (opens .exit) ≡ startOpens n (now (opens .entry))) ⌝ }
+{
+    if start_refused(n) {
+        return Stepped {
+            answer: Answer::Refused(Refusal::Replicas),
+            state: start_state(n),
+            waiting: WaitingList::new(),
+        };
+    }
+    store::clear(&mut *cells);
+    operations::clear(&mut *opens);
+    Stepped {
+        answer: Answer::Done,
+        state: start_state(n),
+        waiting: WaitingList::new(),
+    }
+}
+
+fn position(x: Step) -> usize
+    ensures { λ r. ⌜ r ≡ positionOf x ⌝ }
+{
+    match x {
+        Step::Deliver(at, choice) => at as usize,
+        Step::Lose(at) => at as usize,
+        Step::Repeat(at) => at as usize,
+        Step::Start(n) => 0,
+        Step::BeginRead(x) => 0,
+        Step::BeginWrite(x, v) => 0,
+        Step::Advance(r) => 0,
+        Step::Replace(number) => 0,
+        Step::Tell(r) => 0,
+        Step::Remove(r) => 0,
+        Step::GiveUp(o) => 0,
+    }
+}
+
+fn deliver(
+    s: State,
+    cells: &mut [u32; CELLS],
+    opens: &mut [Operation; OPEN],
+    held: usize,
+    p: Packet,
+    at: usize,
+    choice: u8,
+) -> Decision
+    ensures { λ d. ⌜ (d ≡ delivered (given s (now (cells .entry)) (now (opens .entry)) held) p at choice .decision)
+        × (now (cells .exit) ≡ delivered (given s (now (cells .entry)) (now (opens .entry)) held) p at choice .store)
+        × (now (opens .exit) ≡ delivered (given s (now (cells .entry)) (now (opens .entry)) held) p at choice .opens) ⌝ }
+{
+    if held <= at {
+        return decisions::refuse(s, Refusal::NoPacket);
+    }
+    let m = messages::message_of(p);
+    delivery::deliver(s, &mut *cells, &mut *opens, held, at, choice, m)
+}
+
+// What is decided of a step; p is the packet at its position, and the store and the open operations are left as the step leaves them.
+pub fn decide(
+    s: State,
+    cells: &mut [u32; CELLS],
+    opens: &mut [Operation; OPEN],
+    held: usize,
+    p: Packet,
+    x: Step,
+) -> Decision
+    ensures { λ d. ⌜ (d ≡ decided (given s (now (cells .entry)) (now (opens .entry)) held) p x .decision)
+        × (now (cells .exit) ≡ decided (given s (now (cells .entry)) (now (opens .entry)) held) p x .store)
+        × (now (opens .exit) ≡ decided (given s (now (cells .entry)) (now (opens .entry)) held) p x .opens) ⌝ }
+{
+    match x {
+        Step::Start(n) => decisions::refuse(s, Refusal::Format),
+        Step::BeginRead(x) => steps::begin(s, &mut *opens, held, false, x as Object, 0),
+        Step::BeginWrite(x, v) => steps::begin(s, &mut *opens, held, true, x as Object, v),
+        Step::Deliver(at, choice) => deliver(s, &mut *cells, &mut *opens, held, p, at as usize, choice),
+        Step::Lose(at) => steps::lose(s, held, at as usize),
+        Step::Repeat(at) => steps::repeat(s, held, p, at as usize),
+        Step::Advance(r) => steps::advance(s, &mut *cells, held, r),
+        Step::Replace(number) => steps::replace(s, number),
+        Step::Tell(r) => steps::tell(s, r),
+        Step::Remove(r) => steps::remove(s, r),
+        Step::GiveUp(o) => steps::give_up(s, &mut *opens, o as Operation),
+    }
+}
+
+// One step of the machine: look at the packet, decide, edit the list.
+pub fn step(
+    s: State,
+    cells: &mut [u32; CELLS],
+    opens: &mut [Operation; OPEN],
+    waiting: WaitingList,
+    x: Step,
+) -> Stepped
+    ensures { λ r. ⌜ (r .answer ≡ answerTo (machine s (now (cells .entry)) (now (opens .entry)) waiting) x)
+        × (r .state ≡ after (machine s (now (cells .entry)) (now (opens .entry)) waiting) x .state)
+        × (r .waiting ≡ after (machine s (now (cells .entry)) (now (opens .entry)) waiting) x .waiting)
+        × (now (cells .exit) ≡ after (machine s (now (cells .entry)) (now (opens .entry)) waiting) x .store)
+        × (now (opens .exit) ≡ after (machine s (now (cells .entry)) (now (opens .entry)) waiting) x .opens) ⌝ }
+{
+    let held = waiting.held();
+    let p = waiting.look(position(x));
+    let d = decide(s, &mut *cells, &mut *opens, held, p, x);
+    let answer = d.answer;
+    let state = d.state;
+    let edit = d.edit;
+    Stepped {
+        answer,
+        state,
+        waiting: waiting.change(edit),
+    }
+}
