@@ -14,7 +14,6 @@ pub use mathlib.Core.List.{List·Memᴰ·cases-cons as cases-cons, List·Memᴰ�
 
 module _ {A : Type 0} where
   infix 4 _∉_
-
   -- x is not in the list
   abbrev pub _∉_ : A → List A → Type 0
   x ∉ l = x ∈ l → ⊥

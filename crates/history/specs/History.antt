@@ -5,7 +5,6 @@ use mathlib.Core.List.{List, [], _∷_, List·Memᴰ}
 use Prim.Native.Nat.{ℕ}
 
 infix 4 _∈_
-
 -- x is in the list l
 abbrev pub _∈_ : {A : Type 0} → A → List A → Type 0
 x ∈ l = List·Memᴰ x l

@@ -1,14 +1,13 @@
 // The commonest decisions, and the edits of the waiting list that they ask for.
 ghost use mathlib.Core.Path.{_≡_};
-ghost use Prim.Native.Nat.{_≤_};
 ghost use Rattle.protocol.specs.Decisions.{noEdit, takeOut, takeOutAdd, takeOutAddTwo, addOne, addTwo, decide, refusing, dropping, passing, overfull};
 use crate::messages;
+use limits::WAITING;
 use protocol::Answer;
 use protocol::Decision;
 use protocol::Message;
 use protocol::Refusal;
 use protocol::State;
-use limits::WAITING;
 use waiting::Edit;
 use waiting::Packet;
 
@@ -120,8 +119,12 @@ pub fn pass_on(s: State, at: usize, m: Message) -> Decision
 
 // Whether more than 64 packets would wait after `out` go and `add` come.
 pub fn is_overfull(held: usize, out: u8, add: u8) -> bool
-    requires { ⌜ add ≤ 2 ⌝ }
     ensures { λ r. ⌜ r ≡ overfull held out add ⌝ }
 {
-    WAITING + (out as usize) - (add as usize) < held
+    let most = WAITING + (out as usize);
+    let more = add as usize;
+    if most < more {
+        return 0 < held;
+    }
+    most - more < held
 }

@@ -3,17 +3,15 @@ ghost use mathlib.Core.Path.{_≡_};
 ghost use Rattle.protocol.specs.Answers.{refusalNumber};
 ghost use Rattle.protocol.specs.Decisions.{given};
 ghost use Rattle.protocol.specs.Steps.{startRefused, startState, startAnswer, startStore, startOpens, delivered, positionOf, decided, machine, answerTo, after};
+
 pub mod decisions;
 pub mod delivery;
 pub mod messages;
 pub mod steps;
+
 use limits::OPEN;
 use limits::Object;
 use limits::Operation;
-use replicas::CELLS;
-use replicas::Chain;
-use replicas::store;
-use switch::Switch;
 use protocol::Answer;
 use protocol::Decision;
 use protocol::Message;
@@ -21,6 +19,10 @@ use protocol::Refusal;
 use protocol::State;
 use protocol::Step;
 use protocol::Stepped;
+use replicas::CELLS;
+use replicas::Chain;
+use replicas::store;
+use switch::Switch;
 use waiting::Packet;
 use waiting::WaitingList;
 
@@ -145,7 +147,15 @@ pub fn decide(
         Step::Start(n) => decisions::refuse(s, Refusal::Format),
         Step::BeginRead(x) => steps::begin(s, &mut *opens, held, false, x as Object, 0),
         Step::BeginWrite(x, v) => steps::begin(s, &mut *opens, held, true, x as Object, v),
-        Step::Deliver(at, choice) => deliver(s, &mut *cells, &mut *opens, held, p, at as usize, choice),
+        Step::Deliver(at, choice) => deliver(
+            s,
+            &mut *cells,
+            &mut *opens,
+            held,
+            p,
+            at as usize,
+            choice,
+        ),
         Step::Lose(at) => steps::lose(s, held, at as usize),
         Step::Repeat(at) => steps::repeat(s, held, p, at as usize),
         Step::Advance(r) => steps::advance(s, &mut *cells, held, r),

@@ -1,13 +1,13 @@
 // Packets and the messages that they hold.
 ghost use mathlib.Core.Path.{_≡_};
 ghost use Rattle.protocol.specs.Messages.{packetOf, messageOf, isUnstamped, writeOf};
-use protocol::Message;
 use limits::Number;
 use limits::Object;
 use limits::Operation;
 use limits::Replica;
 use limits::Stamp;
 use limits::Value;
+use protocol::Message;
 use replicas::Write;
 use waiting::Packet;
 
@@ -40,9 +40,7 @@ pub fn packet_of(m: Message) -> Packet
     match m {
         Message::UnstampedWrite(o, x, v) => packet(1, 0, 0, o, x, v, 0),
         Message::SwitchRead(o, x) => packet(2, 0, 0, o, x, 0, 0),
-        Message::StampedWrite(r, w) => {
-            packet(3, r, 0, w.operation, w.object, w.value, w.stamp)
-        }
+        Message::StampedWrite(r, w) => { packet(3, r, 0, w.operation, w.object, w.value, w.stamp) }
         Message::DirectRead(r, number, t, o, x) => packet(4, r, number, o, x, 0, t),
         Message::NormalRead(r, o, x) => packet(5, r, 0, o, x, 0, 0),
         Message::Completion(x, t) => packet(6, 0, 0, 0, x, 0, t),

@@ -5,10 +5,6 @@ ghost use Rattle.protocol.specs.Steps.{asking, begun, lost, repeated, applyingO
 use crate::decisions;
 use crate::delivery;
 use crate::messages;
-use protocol::Decision;
-use protocol::Message;
-use protocol::Refusal;
-use protocol::State;
 use limits::LAST_OPERATION;
 use limits::Number;
 use limits::OPEN;
@@ -16,6 +12,10 @@ use limits::Object;
 use limits::Operation;
 use limits::Replica;
 use limits::Value;
+use protocol::Decision;
+use protocol::Message;
+use protocol::Refusal;
+use protocol::State;
 use replicas::CELLS;
 use replicas::Write;
 use waiting::Edit;
@@ -32,7 +32,14 @@ fn ask(is_write: bool, o: Operation, x: Object, v: Value) -> Message
 }
 
 // A new operation begins, with one packet to the switch.
-pub fn begin(s: State, opens: &mut [Operation; OPEN], held: usize, is_write: bool, x: Object, v: Value) -> Decision
+pub fn begin(
+    s: State,
+    opens: &mut [Operation; OPEN],
+    held: usize,
+    is_write: bool,
+    x: Object,
+    v: Value,
+) -> Decision
     ensures { λ d. ⌜ (d ≡ begun s (now (opens .entry)) held «is_write» x v .decision) × (now (opens .exit) ≡ begun s (now (opens .entry)) held «is_write» x v .opens) ⌝ }
 {
     if 1024 <= x {

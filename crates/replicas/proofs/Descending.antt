@@ -111,9 +111,10 @@ Stood c r p k = ((k ≡ p) × (p < placeOf c r)) ⊎ ((k ≡ p + 1) × (placeOf 
 stood : (c : Chain) (r p : ℕ) → isLive c r ≡ true → p < liveCount (removed c r) →
     (k : ℕ) × (k < liveCount c) × (memberAt (removed c r) p ≡ memberAt c k) × Stood c r p k
 stood c r p e h =
-    elim (decLt p (placeOf c r))
-    [ yes b ↦ (p, omega (arith, count-removed c r e), member-removed-before c r p e b, inl (refl, b))
-    | no b ↦ (p + 1, omega (arith, count-removed c r e), member-removed-behind c r p e (omega arith), inr (refl, omega arith)) ]
+    elim (decLt p (placeOf c r)) [
+      | yes b ↦ (p, omega (arith, count-removed c r e), member-removed-before c r p e b, inl (refl, b))
+      | no b ↦ (p + 1, omega (arith, count-removed c r e), member-removed-behind c r p e (omega arith), inr (refl, omega arith))
+    ]
 
 -- two that stand in one place stood in one place, and the order stays
 stood-same : (c : Chain) (r p q k l : ℕ) → Stood c r p k → Stood c r q l → k ≡ l → p ≡ q
@@ -171,11 +172,13 @@ module _ (c : Chain) (r stamp : ℕ) (g : Descending c) (z : Sized c) (e : isLiv
 
   falls-still : (p : ℕ) → p + 1 < liveCount c → appliedBy (applying c r stamp) (memberAt c (p + 1)) ≤ appliedBy (applying c r stamp) (memberAt c p)
   falls-still p h =
-      elim (ℕ-discrete p (placeOf c r))
-      [ yes q ↦ omega (arith, itself p q, others (p + 1) h (λ n. omega arith), g .falls p h)
-      | no q ↦ elim (ℕ-discrete (p + 1) (placeOf c r))
-        [ yes n ↦ omega (arith, before p n, itself (p + 1) n, others p (omega arith) q)
-        | no n ↦ omega (arith, others p (omega arith) q, others (p + 1) h n, g .falls p h) ] ]
+      elim (ℕ-discrete p (placeOf c r)) [
+        | yes q ↦ omega (arith, itself p q, others (p + 1) h (λ n. omega arith), g .falls p h)
+        | no q ↦ elim (ℕ-discrete (p + 1) (placeOf c r)) [
+          | yes n ↦ omega (arith, before p n, itself (p + 1) n, others p (omega arith) q)
+          | no n ↦ omega (arith, others p (omega arith) q, others (p + 1) h n, g .falls p h)
+        ]
+      ]
 
   pub descending-applying : Descending (applying c r stamp)
   unfolding memberAt members liveCount applying

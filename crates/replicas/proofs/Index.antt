@@ -38,17 +38,19 @@ index-none (q ∷ l) r never =
 pub index-at : (l : List ℕ) (r : ℕ) → indexOf l r < length l → getD l (indexOf l r) 0 ≡ r
 index-at [] r h = absurd (not-suc-le-zero h)
 index-at (q ∷ l) r h =
-    elim (ℕ-discrete q r)
-    [ yes e ↦ rw (index-head q l r e) e
-    | no n ↦ rw (index-tail q l r n) (index-at l r (le-of-suc-le-suc (rw (index-tail q l r n) at h))) ]
+    elim (ℕ-discrete q r) [
+      | yes e ↦ rw (index-head q l r e) e
+      | no n ↦ rw (index-tail q l r n) (index-at l r (le-of-suc-le-suc (rw (index-tail q l r n) at h)))
+    ]
 
 -- a member's place is in the list
 pub in-index : (l : List ℕ) (r : ℕ) → List·Memᴰ r l → indexOf l r < length l
 in-index [] r m = absurd (List·Memᴰ·not-nil m)
 in-index (q ∷ l) r m =
-    elim (ℕ-discrete q r)
-    [ yes e ↦ rw (index-head q l r e) (suc-le-suc zero-le)
-    | no n ↦ rw (index-tail q l r n) (suc-le-suc (⊎-elim (λ e. absurd (n (sym e))) (λ t. in-index l r t) (List·Memᴰ·cases-cons m))) ]
+    elim (ℕ-discrete q r) [
+      | yes e ↦ rw (index-head q l r e) (suc-le-suc zero-le)
+      | no n ↦ rw (index-tail q l r n) (suc-le-suc (⊎-elim (λ e. absurd (n (sym e))) (λ t. in-index l r t) (List·Memᴰ·cases-cons m)))
+    ]
 
 -- what stands at a place is a member
 pub at-in : {A : Type 0} (l : List A) (p : ℕ) (d : A) → p < length l → List·Memᴰ (getD l p d) l

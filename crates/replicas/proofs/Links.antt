@@ -100,7 +100,7 @@ module _ (c : Chain) (r : ℕ) (g : Descending c) (h : HasNext c r) where
     next-grows : pending (applying c r stamp) (nextOf c r) ≡ pending c (nextOf c r) + 1
     next-grows =
         let now : pending (applying c r stamp) (nextOf c r) ≡ appliedBy (applying c r stamp) r - appliedBy (applying c r stamp) (nextOf c r) =
-            rw before-next at (pending-applying c (nextOf c r) r stamp next-live (omega (arith, next-place))) in
+        rw before-next at (pending-applying c (nextOf c r) r stamp next-live (omega (arith, next-place))) in
         omega (arith, now, next-kept, next-pending, next-lags, applied-applying-same c r stamp z)
 
 -- ---- a removal
@@ -114,7 +114,7 @@ module _ (c : Chain) (r : ℕ) (g : Descending c) (h : HasNext c r) where
       place-found (removed c r) (placeOf c r) (nextOf c r) (omega (arith, count-removed c r live))
       (λ k b e.
       let same : k ≡ placeOf c r + 1 =
-          g .distinct k (placeOf c r + 1) (omega arith) h (sym (member-removed-before c r k live b) ∙ e) in
+      g .distinct k (placeOf c r + 1) (omega arith) h (sym (member-removed-before c r k live b) ∙ e) in
       omega arith)
       (member-removed-behind c r (placeOf c r) live (le-refl (placeOf c r)))
 
@@ -133,9 +133,9 @@ module _ (c : Chain) (r : ℕ) (g : Descending c) (h : HasNext c r) where
   moved-pending b =
       let live = is-live c r g h in
       let before : memberAt (removed c r) (placeOf (removed c r) (nextOf c r) - 1) ≡ memberAt c (placeOf c r - 1) =
-          ap (λ (p : ℕ). memberAt (removed c r) (p - 1)) moved-place ∙ member-removed-before c r (placeOf c r - 1) live (omega arith) in
+      ap (λ (p : ℕ). memberAt (removed c r) (p - 1)) moved-place ∙ member-removed-before c r (placeOf c r - 1) live (omega arith) in
       let now : pending (removed c r) (nextOf c r) ≡ appliedBy c (memberAt c (placeOf c r - 1)) - appliedBy c (nextOf c r) =
-          simp (before, applied-removed) at (pending-behind (removed c r) (nextOf c r) moved-live (omega (arith, moved-place))) in
+      simp (before, applied-removed) at (pending-behind (removed c r) (nextOf c r) moved-live (omega (arith, moved-place))) in
       omega (arith, now, next-pending c r g h, next-lags c r g h, pending-behind c r live b, own-lags c r g live b)
 
 -- 'Removing one between joins its two links, the outgoing link's writes first.'
@@ -173,13 +173,14 @@ module _ (u : World) (r : ℕ) (g : Descending (u .chain)) (z : Sized (u .chain)
       let c = u .chain in
       let live = pending-live c r w in
       let kept : appliedBy (applying c r stamp) (memberAt c (placeOf c r - 1)) ≡ appliedBy c (memberAt c (placeOf c r - 1)) =
-          applied-applying-other c (memberAt c (placeOf c r - 1)) r stamp (before-apart c r g live own-place) in
-      omega
-      (arith,
-      kept,
-      pending-applying c r r stamp live own-place,
-      applied-applying-same c r stamp z,
-      pending-behind c r live own-place)
+      applied-applying-other c (memberAt c (placeOf c r - 1)) r stamp (before-apart c r g live own-place) in
+      omega (
+        arith,
+        kept,
+        pending-applying c r r stamp live own-place,
+        applied-applying-same c r stamp z,
+        pending-behind c r live own-place,
+      )
 
   -- 'this replica applies the oldest write of its incoming link'
   pub advanced-link : linkInto (advanced u r) r ≡ drop 1 (linkInto u r)
@@ -215,7 +216,7 @@ unfolding linkedWrites
 recent c q r g f e z b =
     let first : headOf c ≡ r = head-is c ∙ ap (memberAt c) (sym z) ∙ place-at c r e in
     let last : appliedBy c (memberAt c (liveCount c - 1)) ≤ appliedBy c (memberAt c (placeOf c q)) =
-        falls-to c (placeOf c q) (liveCount c - 1) g (omega (arith, place-below c q f)) (omega (arith, place-below c q f)) in
+    falls-to c (placeOf c q) (liveCount c - 1) g (omega (arith, place-below c q f)) (omega (arith, place-below c q f)) in
     let room : appliedBy c r - appliedBy c (memberAt c (liveCount c - 1)) < limits.linked = rw (first, tail-is c) at b in
     omega (arith, room, rw (place-at c q f) at last)
 
@@ -236,10 +237,10 @@ received-next u r w g z t e h a =
     let next = nextOf c r in
     let seam : appliedBy c next + pending c next ≡ appliedBy c r = omega (arith, next-pending c r g h, next-lags c r g h) in
     let kept : entries log (appliedBy c next) (pending c next) ≡ entries (u .store) (appliedBy c next) (pending c next) =
-        entries-logged (u .store) (appliedBy c r) w (appliedBy c next) (pending c next) (omega arith)
-        (recent c next r g (next-live c r g h) (is-live c r g h) e (accepts-room c r (w .stamp) a)) in
+    entries-logged (u .store) (appliedBy c r) w (appliedBy c next) (pending c next) (omega arith)
+    (recent c next r g (next-live c r g h) (is-live c r g h) e (accepts-room c r (w .stamp) a)) in
     let put : entryAt log (appliedBy c next + pending c next) ≡ w =
-        ap (entryAt log) seam ∙ entry-logged-same (u .store) (appliedBy c r) w t in
+    ap (entryAt log) seam ∙ entry-logged-same (u .store) (appliedBy c r) w t in
     ap (λ (v : World). linkInto v next) (received-taken u r w a) ∙
     rw (next-kept c r g h (w .stamp) z, next-grows c r g h (w .stamp) z)
     (entries-written log r w (appliedBy c next) (pending c next + 1) ∙
@@ -255,17 +256,18 @@ module _ (c : Chain) (q r : ℕ) (g : Descending c) (f : isLive c q ≡ true) (e
 
   other-pending : pending (applying c r stamp) q ≡ pending c q
   other-pending =
-      elim (ℕ-discrete (placeOf c q) 0)
-      [ yes z ↦ pending-head (applying c r stamp) q (place-same (applying c r stamp) c (members-applying c r stamp) q ∙ z) ∙
-          sym (pending-head c q z)
-      | no z ↦ behind (omega arith) ]
+      elim (ℕ-discrete (placeOf c q) 0) [
+        | yes z ↦ pending-head (applying c r stamp) q (place-same (applying c r stamp) c (members-applying c r stamp) q ∙ z) ∙
+            sym (pending-head c q z)
+        | no z ↦ behind (omega arith)
+      ]
     where
       behind : 0 < placeOf c q → pending (applying c r stamp) q ≡ pending c q
       behind b =
           let kept : appliedBy (applying c r stamp) (memberAt c (placeOf c q - 1)) ≡ appliedBy c (memberAt c (placeOf c q - 1)) =
-              applied-applying-other c (memberAt c (placeOf c q - 1)) r stamp
-              (λ m. rows-apart c (placeOf c q - 1) (placeOf c r) g (omega (arith, place-below c q f)) (place-below c r e)
-              (λ y. n (omega arith)) (rw (place-at c r e) m)) in
+          applied-applying-other c (memberAt c (placeOf c q - 1)) r stamp
+          (λ m. rows-apart c (placeOf c q - 1) (placeOf c r) g (omega (arith, place-below c q f)) (place-below c r e)
+          (λ y. n (omega arith)) (rw (place-at c r e) m)) in
           omega (arith, kept, other-kept, pending-applying c q r stamp f b, pending-behind c q f b)
 
 pub advanced-others : (u : World) (q r : ℕ) → Descending (u .chain) → 0 < pending (u .chain) r → isLive (u .chain) q ≡ true →
@@ -289,9 +291,9 @@ received-others u q r w g z f b a =
     let apart : placeOf c q ≡ placeOf c r → ⊥ = λ y. omega arith in
     let later : placeOf c q ≡ placeOf c r + 1 → ⊥ = λ y. omega arith in
     let front : appliedBy c (memberAt c (placeOf c q - 1)) ≤ appliedBy c (memberAt c (placeOf c r)) =
-        falls-to c (placeOf c r) (placeOf c q - 1) g (omega arith) (omega (arith, place-below c q f)) in
+    falls-to c (placeOf c r) (placeOf c q - 1) g (omega arith) (omega (arith, place-below c q f)) in
     let within : appliedBy c q + pending c q ≤ appliedBy c r =
-        omega (arith, rw (place-at c r e) at front, pending-behind c q f (omega arith), own-lags c q g f (omega arith)) in
+    omega (arith, rw (place-at c r e) at front, pending-behind c q f (omega arith), own-lags c q g f (omega arith)) in
     ap (λ (v : World). linkInto v q) (received-taken u r w a) ∙
     rw (other-kept c q r g f e apart later (w .stamp), other-pending c q r g f e apart later (w .stamp))
     (entries-written (logged (u .store) (appliedBy c r) w) r w (appliedBy c q) (pending c q) ∙

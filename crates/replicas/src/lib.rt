@@ -4,8 +4,10 @@ ghost use mathlib.Core.Path.{_≡_};
 ghost use Prim.Native.Nat.{_<_};
 ghost use Rattle.replicas.specs.Chain.{appliedBy};
 ghost use Rattle.replicas.specs.Replicas.{world, linkedWrites, accepts, applying, received, pending, oldest, advanced, answersDirect};
+
 pub mod shape;
 pub mod store;
+
 use limits::LAST_POSITION;
 use limits::Number;
 use limits::Object;
@@ -18,7 +20,9 @@ use limits::Value;
 
 // Where the stamps and the links' writes begin in the store, and how many cells it has.
 pub const STAMPS: usize = 8192;
+
 pub const ENTRIES: usize = 16384;
+
 pub const CELLS: usize = 16640;
 
 // `highest`, `permits` and `applied` have a place for each row of the tables.
@@ -131,7 +135,14 @@ impl Chain {
     }
 
     // Whether the replica answers a direct read that carries this switch number and stamp.
-    pub fn answers(self, store: &[u32; CELLS], r: Replica, o: Object, number: Number, carried: Stamp) -> bool
+    pub fn answers(
+        self,
+        store: &[u32; CELLS],
+        r: Replica,
+        o: Object,
+        number: Number,
+        carried: Stamp,
+    ) -> bool
         ensures { λ x. ⌜ x ≡ answersDirect (world self (now (store .entry))) r o number carried ⌝ }
     {
         if self.permitted(r) != number {

@@ -22,63 +22,51 @@ rises c =
     sym (c .before .above .ensures) ∙
     not-false (c .before .above .result) (c .if2 .left)
 
-is-live-requires : tie.Need-is-live-requires
-is-live-requires c κs = search needs
-
 returns : tie.Need-returns
 unfolding accepts
 returns c = simp (← c .before .is-live .ensures, not-true (c .before .is-live .result) (c .if1 .taken))
 
-highest-requires : tie.Need-highest-requires
-highest-requires c κs = search needs
-
-above-requires : tie.Need-above-requires
-above-requires c κs = search needs
-
 returns-2 : tie.Need-returns-2
 unfolding accepts
 returns-2 c =
-    simp
-    (lives (c .before .before .before),
-    ← c .before .before .highest .ensures,
-    ← c .before .above .ensures,
-    not-true (c .before .above .result) (c .if2 .taken))
-
-linked-requires : tie.Need-linked-requires
-linked-requires c κs = search needs
+    simp (
+      lives (c .before .before .before),
+      ← c .before .before .highest .ensures,
+      ← c .before .above .ensures,
+      not-true (c .before .above .result) (c .if2 .taken),
+    )
 
 returns-3 : tie.Need-returns-3
 unfolding accepts
 returns-3 c =
-    simp
-    (lives (c .before .before .before .before .before),
-    rises (c .before .before),
-    ← c .before .linked .ensures,
-    le-leb _ _ (c .if3 .taken))
-
-applied-requires : tie.Need-applied-requires
-applied-requires c κs = search needs
+    simp (
+      lives (c .before .before .before .before .before),
+      rises (c .before .before),
+      ← c .before .linked .ensures,
+      le-leb _ _ (c .if3 .taken),
+    )
 
 returns-4 : tie.Need-returns-4
 unfolding accepts
 returns-4 c =
-    simp
-    (lives (c .before .before .before .before .before .before),
-    rises (c .before .before .before),
-    ← c .before .before .linked .ensures,
-    lt-leb _ _ (c .before .if3 .left),
-    ← c .applied .ensures)
+    simp (
+      lives (c .before .before .before .before .before .before),
+      rises (c .before .before .before),
+      ← c .before .before .linked .ensures,
+      lt-leb _ _ (c .before .if3 .left),
+      ← c .applied .ensures,
+    )
 
 pub accepts-spec : {M : Type 1} → statement M
 accepts-spec =
     tie.close
     (tie.spec
-    is-live-requires
+    (λ c κs. search needs)
     returns
-    highest-requires
-    above-requires
+    (λ c κs. search needs)
+    (λ c κs. search needs)
     returns-2
-    linked-requires
+    (λ c κs. search needs)
     returns-3
-    applied-requires
+    (λ c κs. search needs)
     returns-4)

@@ -15,40 +15,33 @@ use Rattle.replicas.proofs.Chain.advance.Tie as tie
 waits : (c : tie.Else1) → 0 < pending (c .before .before .args .self) (c .before .before .args .r)
 waits c = omega (arith, c .before .pending .ensures, c .if1 .left)
 
-pending-requires : tie.Need-pending-requires
-pending-requires c κs = search needs
-
 returns : tie.Need-returns
 returns c =
     let start = c .before .before .args in
     let same = advanced-none (world (start .self) (start .store .now)) (start .r) (sym (c .before .pending .ensures) ∙ c .if1 .taken) in
     (sym (ap (λ (u : World). u .chain) same), sym (ap (λ (u : World). u .store) same))
 
-oldest-requires : tie.Need-oldest-requires
-oldest-requires c κs = search needs
-
-put-write-requires : tie.Need-put-write-requires
-put-write-requires c κs = search needs
-
 apply-requires : tie.Need-apply-requires
 apply-requires c κs =
     let start = c .before .before .before .before .before .before in
     let h = waits (c .before .before .before .before) in
-    omega
-    (arith,
-    h,
-    pending-is (start .args .self) (start .args .r) h,
-    applied-fits (start .args .self) _ (start .good .0) (memberAt (start .args .self) (placeOf (start .args .self) (start .args .r) - 1)))
+    omega (
+      arith,
+      h,
+      pending-is (start .args .self) (start .args .r) h,
+      applied-fits (start .args .self) _ (start .good .0) (memberAt (start .args .self) (placeOf (start .args .self) (start .args .r) - 1)),
+    )
 
 returns-2 : tie.Need-returns-2
 returns-2 c =
     let start = c .before .before .before .before .before .before .before .args in
     let same = advanced-taken (world (start .self) (start .store .now)) (start .r) (waits (c .before .before .before .before .before)) in
-    let w = c .before .before .before .oldest .ensures in
-    (c .apply .ensures ∙ ap (λ (v : Write). applying (start .self) (start .r) (v .stamp)) w ∙ sym (ap (λ (u : World). u .chain) same),
-    c .before .put-write .ensures ∙ ap (λ (v : Write). written (start .store .now) (start .r) v) w ∙ sym (ap (λ (u : World). u .store) same))
+    let w = c .before .before .before .oldest .ensures in (
+      c .apply .ensures ∙ ap (λ (v : Write). applying (start .self) (start .r) (v .stamp)) w ∙ sym (ap (λ (u : World). u .chain) same),
+      c .before .put-write .ensures ∙ ap (λ (v : Write). written (start .store .now) (start .r) v) w ∙ sym (ap (λ (u : World). u .store) same),
+    )
 
 pub advance-spec : {M : Type 1} → statement M
 advance-spec =
     tie.close
-    (tie.spec pending-requires returns oldest-requires put-write-requires apply-requires returns-2)
+    (tie.spec (λ c κs. search needs) returns (λ c κs. search needs) (λ c κs. search needs) apply-requires returns-2)

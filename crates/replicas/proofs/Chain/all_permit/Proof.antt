@@ -18,9 +18,6 @@ Inv-loop self number n order i₀ i = (i ≤ n) × ((k : ℕ) → k < i → perm
 abbrev μ-loop : tie.MeasureT-loop
 μ-loop self number n order i₀ i = n - i
 
-count-requires : tie.Need-count-requires Inv-loop μ-loop
-count-requires c κs = search needs
-
 loop-holds : tie.Need-loop-holds Inv-loop μ-loop
 loop-holds c = (omega arith, below-none _)
 
@@ -29,25 +26,18 @@ array-read-permits c =
     let start = c .before .before .before .before in
     omega (arith, c .before .before .before .count .ensures, count-places (start .args .self) _ (start .good .0))
 
-permits-requires : tie.Need-permits-requires Inv-loop μ-loop
-permits-requires c κs = search needs
-
 returns : tie.Need-returns Inv-loop μ-loop
 returns c =
     let start = c .before .before .before .before .before .before .args in
     sym (permit-lacks (start .self) (start .number) (c .before .before .before .loop .i) (omega arith)
     (sym (c .before .permits .ensures) ∙ not-true (c .before .permits .result) (c .if1 .taken)))
 
-add-i : tie.Need-add-i Inv-loop μ-loop
-add-i c = search needs
-
-loop-less : tie.Need-loop-less Inv-loop μ-loop
-loop-less c = search needs
-
 loop-again : tie.Need-loop-again Inv-loop μ-loop
-loop-again c =
-    (omega arith, below-more _ _ (c .before .before .before .loop .inv .1)
-    (sym (c .before .permits .ensures) ∙ not-false (c .before .permits .result) (c .if1 .left)))
+loop-again c = (
+  omega arith,
+  below-more _ _ (c .before .before .before .loop .inv .1)
+      (sym (c .before .permits .ensures) ∙ not-false (c .before .permits .result) (c .if1 .left)),
+)
 
 returns-2 : tie.Need-returns-2 Inv-loop μ-loop
 returns-2 c =
@@ -61,12 +51,12 @@ all-permit-spec =
     (tie.spec
     Inv-loop
     μ-loop
-    count-requires
+    (λ c κs. search needs)
     loop-holds
     array-read-permits
-    permits-requires
+    (λ c κs. search needs)
     returns
-    add-i
-    loop-less
+    (λ c. search needs)
+    (λ c. search needs)
     loop-again
     returns-2)

@@ -13,24 +13,16 @@ decides : (c : tie.After-above) →
     cond (c .above .result) false true
 unfolding answersDirect
 decides c =
-    simp
-    (← c .before .before .before .permitted .ensures,
-    eq-eqb _ _ (c .before .before .if1 .left),
-    ← c .before .read-stamp .ensures,
-    ← c .above .ensures)
-
-permitted-requires : tie.Need-permitted-requires
-permitted-requires c κs = search needs
+    simp (
+      ← c .before .before .before .permitted .ensures,
+      eq-eqb _ _ (c .before .before .if1 .left),
+      ← c .before .read-stamp .ensures,
+      ← c .above .ensures,
+    )
 
 returns : tie.Need-returns
 unfolding answersDirect
 returns c = simp (← c .before .permitted .ensures, ne-eqb _ _ (c .if1 .taken))
-
-read-stamp-requires : tie.Need-read-stamp-requires
-read-stamp-requires c κs = search needs
-
-above-requires : tie.Need-above-requires
-above-requires c κs = search needs
 
 returns-2 : tie.Need-returns-2
 returns-2 c = sym (decides (c .before) ∙ ap (λ (t : Bool). cond t false true) (c .if2 .taken))
@@ -41,4 +33,4 @@ returns-3 c = sym (decides (c .before) ∙ ap (λ (t : Bool). cond t false true)
 pub answers-spec : {M : Type 1} → statement M
 answers-spec =
     tie.close
-    (tie.spec permitted-requires returns read-stamp-requires above-requires returns-2 returns-3)
+    (tie.spec (λ c κs. search needs) returns (λ c κs. search needs) (λ c κs. search needs) returns-2 returns-3)

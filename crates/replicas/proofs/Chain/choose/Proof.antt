@@ -6,21 +6,12 @@ use Rattle.replicas.proofs.ChainLaws.{chosen-none}
 use Rattle.replicas.proofs.Chain.choose.Statement.{statement}
 use Rattle.replicas.proofs.Chain.choose.Tie as tie
 
-count-requires : tie.Need-count-requires
-count-requires c κs = search needs
-
 returns : tie.Need-returns
 returns c = sym (chosen-none (c .before .before .args .self) (c .before .before .args .choice) (omega arith))
-
-rem-member : tie.Need-rem-member
-rem-member c = search needs
-
-member-requires : tie.Need-member-requires
-member-requires c κs = search needs
 
 returns-2 : tie.Need-returns-2
 unfolding chosenBy
 returns-2 c = simp (← c .before .before .count .ensures, ← c .member .ensures)
 
 pub choose-spec : {M : Type 1} → statement M
-choose-spec = tie.close (tie.spec count-requires returns rem-member member-requires returns-2)
+choose-spec = tie.close (tie.spec (λ c κs. search needs) returns (λ c. search needs) (λ c κs. search needs) returns-2)

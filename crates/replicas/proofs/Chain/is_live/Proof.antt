@@ -3,15 +3,9 @@ use Rattle.replicas.specs.Chain.{isLive}
 use Rattle.replicas.proofs.Chain.is_live.Statement.{statement}
 use Rattle.replicas.proofs.Chain.is_live.Tie as tie
 
-place-requires : tie.Need-place-requires
-place-requires c κs = search needs
-
-count-requires : tie.Need-count-requires
-count-requires c κs = search needs
-
 returns : tie.Need-returns
 unfolding isLive
 returns c = simp (← c .before .place .ensures, ← c .count .ensures)
 
 pub is-live-spec : {M : Type 1} → statement M
-is-live-spec = tie.close (tie.spec place-requires count-requires returns)
+is-live-spec = tie.close (tie.spec (λ c κs. search needs) (λ c κs. search needs) returns)

@@ -6,9 +6,6 @@ use Rattle.replicas.proofs.Places.{count-places, member-order}
 use Rattle.replicas.proofs.Chain.member.Statement.{statement}
 use Rattle.replicas.proofs.Chain.member.Tie as tie
 
-count-requires : tie.Need-count-requires
-count-requires c κs = search needs
-
 returns : tie.Need-returns
 returns c = sym (member-past (c .before .before .args .t1) (c .before .before .args .place) (omega arith))
 
@@ -19,4 +16,4 @@ returns-2 : tie.Need-returns-2
 returns-2 c = sym (member-order (c .before .before .before .args .t1) (c .before .before .before .args .place) (omega arith))
 
 pub member-spec : {M : Type 1} → statement M
-member-spec = tie.close (tie.spec count-requires returns element-copy-out-result returns-2)
+member-spec = tie.close (tie.spec (λ c κs. search needs) returns element-copy-out-result returns-2)

@@ -3,12 +3,9 @@ use Rattle.replicas.specs.Chain.{permits}
 use Rattle.replicas.proofs.Chain.permits.Statement.{statement}
 use Rattle.replicas.proofs.Chain.permits.Tie as tie
 
-permitted-requires : tie.Need-permitted-requires
-permitted-requires c κs = search needs
-
 returns : tie.Need-returns
 unfolding permits
 returns c = simp (← c .permitted .ensures)
 
 pub permits-spec : {M : Type 1} → statement M
-permits-spec = tie.close (tie.spec permitted-requires returns)
+permits-spec = tie.close (tie.spec (λ c κs. search needs) returns)

@@ -15,9 +15,6 @@ Inv-loop r n order i₀ i = (i ≤ n) × ((k : ℕ) → k < i → getD order k 0
 abbrev μ-loop : tie.MeasureT-loop
 μ-loop r n order i₀ i = n - i
 
-count-requires : tie.Need-count-requires Inv-loop μ-loop
-count-requires c κs = search needs
-
 loop-holds : tie.Need-loop-holds Inv-loop μ-loop
 loop-holds c = (omega arith, below-none _)
 
@@ -31,12 +28,6 @@ returns c =
     let start = c .before .before .before .before .before in
     let turn = c .before .before .loop in
     sym (place-first (start .args .self) (turn .i) (start .args .r) (omega arith) (turn .inv .1) (c .if1 .taken))
-
-add-i : tie.Need-add-i Inv-loop μ-loop
-add-i c = search needs
-
-loop-less : tie.Need-loop-less Inv-loop μ-loop
-loop-less c = search needs
 
 loop-again : tie.Need-loop-again Inv-loop μ-loop
 loop-again c = (omega arith, below-more _ _ (c .before .before .loop .inv .1) (c .if1 .left))
@@ -53,11 +44,11 @@ place-spec =
     (tie.spec
     Inv-loop
     μ-loop
-    count-requires
+    (λ c κs. search needs)
     loop-holds
     array-read-if1
     returns
-    add-i
-    loop-less
+    (λ c. search needs)
+    (λ c. search needs)
     loop-again
     returns-2)

@@ -14,24 +14,12 @@ use Rattle.replicas.proofs.Chain.receive.Tie as tie
 taken : (c : tie.Else1) → accepts (c .before .before .args .self) (c .before .before .args .r) (c .before .before .args .w .stamp) ≡ true
 taken c = sym (c .before .accepts .ensures) ∙ not-false (c .before .accepts .result) (c .if1 .left)
 
-accepts-requires : tie.Need-accepts-requires
-accepts-requires c κs = search needs
-
 returns : tie.Need-returns
 returns c =
     let start = c .before .before .args in
     let same = received-dropped (world (start .self) (start .store .now)) (start .r) (start .w)
-        (sym (c .before .accepts .ensures) ∙ not-true (c .before .accepts .result) (c .if1 .taken)) in
+    (sym (c .before .accepts .ensures) ∙ not-true (c .before .accepts .result) (c .if1 .taken)) in
     (sym (ap (λ (u : World). u .chain) same), sym (ap (λ (u : World). u .store) same))
-
-applied-requires : tie.Need-applied-requires
-applied-requires c κs = search needs
-
-put-entry-requires : tie.Need-put-entry-requires
-put-entry-requires c κs = search needs
-
-put-write-requires : tie.Need-put-write-requires
-put-write-requires c κs = search needs
 
 apply-requires : tie.Need-apply-requires
 apply-requires c κs =
@@ -42,22 +30,23 @@ returns-2 : tie.Need-returns-2
 returns-2 c =
     let start = c .before .before .before .before .before .before .before .before .args in
     let same = received-taken (world (start .self) (start .store .now)) (start .r) (start .w)
-        (taken (c .before .before .before .before .before .before)) in
-    (c .apply .ensures ∙ sym (ap (λ (u : World). u .chain) same),
-    c .before .put-write .ensures ∙
-    ap (λ (s : List ℕ). written s (start .r) (start .w))
-    (c .before .before .before .put-entry .ensures ∙
-    ap (λ (p : ℕ). logged (start .store .now) p (start .w)) (c .before .before .before .before .applied .ensures)) ∙
-    sym (ap (λ (u : World). u .store) same))
+    (taken (c .before .before .before .before .before .before)) in (
+      c .apply .ensures ∙ sym (ap (λ (u : World). u .chain) same),
+      c .before .put-write .ensures ∙
+          ap (λ (s : List ℕ). written s (start .r) (start .w))
+          (c .before .before .before .put-entry .ensures ∙
+          ap (λ (p : ℕ). logged (start .store .now) p (start .w)) (c .before .before .before .before .applied .ensures)) ∙
+          sym (ap (λ (u : World). u .store) same),
+    )
 
 pub receive-spec : {M : Type 1} → statement M
 receive-spec =
     tie.close
     (tie.spec
-    accepts-requires
+    (λ c κs. search needs)
     returns
-    applied-requires
-    put-entry-requires
-    put-write-requires
+    (λ c κs. search needs)
+    (λ c κs. search needs)
+    (λ c κs. search needs)
     apply-requires
     returns-2)

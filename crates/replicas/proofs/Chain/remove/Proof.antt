@@ -30,12 +30,6 @@ in-turn c =
     let start = c .before .before .before .before .before in
     omega (arith, c .before .before .before .before .count .ensures, count-places (start .args .self) _ (start .good .0))
 
-count-requires : tie.Need-count-requires Inv-loop μ-loop
-count-requires c κs = search needs
-
-place-requires : tie.Need-place-requires Inv-loop μ-loop
-place-requires c κs = search needs
-
 returns : tie.Need-returns Inv-loop μ-loop
 unfolding removed isLive
 returns c = simp (← c .before .before .count .ensures, ← c .before .place .ensures, le-ltb _ _ (c .if1 .taken))
@@ -66,11 +60,12 @@ loop-less c = omega arith
 loop-again : tie.Need-loop-again Inv-loop μ-loop
 loop-again c =
     let self = c .before .before .before .before .before .before .args .self in
-    let turn = c .before .before .loop in
-    (ap (λ (d : Chain). shaped d (d .live) (set (d .order) (turn .i) (getD (d .order) (turn .i + 1) 0))) (turn .inv .0) ∙
-    ap (shaped self (self .live)) (moves-turn 0 _ _ (turn .i) (turn .inv .1)),
-    omega arith,
-    omega arith)
+    let turn = c .before .before .loop in (
+      ap (λ (d : Chain). shaped d (d .live) (set (d .order) (turn .i) (getD (d .order) (turn .i + 1) 0))) (turn .inv .0) ∙
+          ap (shaped self (self .live)) (moves-turn 0 _ _ (turn .i) (turn .inv .1)),
+      omega arith,
+      omega arith,
+    )
 
 returns-2 : tie.Need-returns-2 Inv-loop μ-loop
 unfolding removed isLive
@@ -79,10 +74,11 @@ returns-2 c =
     let n = c .before .before .before .before .count .result in
     let at = c .before .before .before .place .result in
     let all : c .before .loop .i - at ≡ n - 1 - at = omega arith in
-    simp
-    (← c .before .before .before .before .count .ensures,
-    ← c .before .before .before .place .ensures,
-    lt-ltb _ _ (c .before .before .if1 .left))
+    simp (
+      ← c .before .before .before .before .count .ensures,
+      ← c .before .before .before .place .ensures,
+      lt-ltb _ _ (c .before .before .if1 .left),
+    )
     (ap (λ (d : Chain). shaped d (n - 1) (d .order)) (c .before .loop .inv .0) ∙
     ap (λ (k : ℕ). shaped self (n - 1) (moves 0 (self .order) at k)) all)
 
@@ -92,8 +88,8 @@ remove-spec =
     (tie.spec
     Inv-loop
     μ-loop
-    count-requires
-    place-requires
+    (λ c κs. search needs)
+    (λ c κs. search needs)
     returns
     sub-last
     loop-holds

@@ -5,12 +5,9 @@ use Rattle.replicas.specs.Chain.{rowOf}
 use Rattle.replicas.proofs.store.row.Statement.{statement}
 use Rattle.replicas.proofs.store.row.Tie as tie
 
-cast-result : tie.Need-cast-result
-cast-result c = search needs
-
 returns : tie.Need-returns
 unfolding rowOf
 returns c = (refl, omega arith)
 
 pub row-spec : {M : Type 1} → statement M
-row-spec = tie.close (tie.spec cast-result returns)
+row-spec = tie.close (tie.spec (λ c. search needs) returns)

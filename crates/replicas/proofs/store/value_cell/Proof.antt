@@ -4,21 +4,9 @@ use Rattle.replicas.specs.Store.{valueCell}
 use Rattle.replicas.proofs.store.value_cell.Statement.{statement}
 use Rattle.replicas.proofs.store.value_cell.Tie as tie
 
-row-requires : tie.Need-row-requires
-row-requires c κs = search needs
-
-mul-result : tie.Need-mul-result
-mul-result c = search needs
-
-cast-result : tie.Need-cast-result
-cast-result c = search needs
-
-add-result : tie.Need-add-result
-add-result c = search needs
-
 returns : tie.Need-returns
 unfolding valueCell
 returns c = (rw (← c .row .ensures .0), omega (arith, c .row .ensures .1))
 
 pub value-cell-spec : {M : Type 1} → statement M
-value-cell-spec = tie.close (tie.spec row-requires mul-result cast-result add-result returns)
+value-cell-spec = tie.close (tie.spec (λ c κs. search needs) (λ c. search needs) (λ c. search needs) (λ c. search needs) returns)

@@ -1,0 +1,178 @@
+-- The invariant of the order, the log, the waiting packets and the switch's last-committed stamp together, and every change that a step makes to them.
+-- Of the chain there is only how many writes of the log its tail has applied.
+use mathlib.Core.Path.{_≡_, refl, sym, ap, _∙_, subst}
+use mathlib.Core.Logic.{inl, inr}
+use mathlib.Core.List.{List, [], _∷_, _++_, append-assoc}
+use Prim.Native.Nat.{ℕ, zero, suc, _+_, _-_, _≤_, _<_, max}
+use native.Mathlib.Omega.{arith}
+use lib.ListN.{length, take, drop, getD}
+use lib.Seq.{slice, slice-empty, slice-cons, take-append-le, take-take, split-at}
+use Rattle.history.specs.History.{_∈_, Kind, reads, writes, Event, History, begun, finished, Begun}
+use Rattle.history.proofs.Lists.{here, in-left, in-insert, inserted}
+use Rattle.history.proofs.Entries.{Entry, read-entry, New, Unfinished, InOrder}
+use Rattle.history.proofs.Growth.{begun-at}
+use Rattle.history.proofs.Readable.{Readable, placed, readable-now, readable-begin, readable-visible, readable-finish, readable-placed}
+use Rattle.log.proofs.Log.{values, stamps, top, top-take, same-value, below-top, rising-take}
+use Rattle.replicas.specs.declared.Write.{Write}
+use Rattle.protocol.specs.declared.Message.{Message}
+use Rattle.protocol.specs.declared.Message.the-variants.{UnstampedWrite, StampedWrite, Completion, Reply}
+use Rattle.linearizability.proofs.Visible.{entry, shows, Visible, visible-start, visible-begin, visible-finish, visible-reply, visible-stamp, visible-accept, visible-cut, visible-show, hidden-unfinished}
+use Rattle.linearizability.proofs.Packets.{Fine, Asks, Packets, packets-start, grows-event, packets-grows, packets-begun, packets-lose, packets-add, packets-ask, packets-stamp}
+
+-- c is the switch's last-committed stamp
+pub record Core (h : History) (es : List Entry) (issued log : List Write) (n : ℕ) (messages : List Message) (c : ℕ) : Type 0 where
+  pub visible : Visible h es issued log n
+  pub packets : Packets h es issued (top 0 (take n log)) messages
+  -- it is not above the tail's highest stamp
+  pub low : c ≤ top 0 (take n log)
+
+-- nothing happened yet
+pub core-start : Core [] [] [] [] 0 [] 0
+core-start = record { visible = visible-start; packets = packets-start; low = omega arith }
+
+module _ {h : History} {es : List Entry} {issued log : List Write} {n : ℕ} {messages : List Message} {c : ℕ} (k : Core h es issued log n messages c) where
+  -- ---- the history grows
+
+  -- an event after which the order has the same entries and perhaps others
+  core-event : {e : Event} {es' : List Entry} → Visible (e ∷ h) es' issued log n → ((f : Entry) → f ∈ es → f ∈ es')
+      → ((o : ℕ) (xs vs : List ℕ) → Begun h o → Readable h es o xs vs → Readable (e ∷ h) es' o xs vs) → Core (e ∷ h) es' issued log n messages c
+  core-event v old r = record { visible = v; packets = packets-grows (grows-event old r) (k .packets); low = k .low }
+
+  -- an operation begins
+  pub core-begin : (o : ℕ) (a : Kind) → New h o → Core (begun o a ∷ h) es issued log n messages c
+  core-begin o a w = core-event (visible-begin (k .visible) o a w) (λ f i. i) (λ p xs vs b r. readable-begin r w b)
+
+  -- an operation of the order finishes
+  pub core-finish : {o : ℕ} {vs : List ℕ} → InOrder es o vs → Core (finished o vs ∷ h) es issued log n messages c
+  core-finish i = core-event (visible-finish (k .visible) i) (λ f j. j) (λ p xs us b r. readable-finish r)
+
+  -- an answered read finishes, and takes its place in the order
+  pub core-reply : {o : ℕ} {xs vs : List ℕ} → begun o (reads xs) ∈ h → Unfinished h o → (r : Readable h es o xs vs)
+      → Core (finished o vs ∷ h) (placed r) issued log n messages c
+  core-reply {o} {xs} {vs} b w r =
+      core-event (visible-reply (k .visible) b w r)
+      (λ f i. in-insert (r .front) (read-entry o xs vs) (r .back) (subst (λ (l : List Entry). f ∈ l) (r .cut) i))
+      (λ p ys us d q. readable-placed q r w)
+
+  -- ---- packets join the list
+
+  -- one that is no unstamped write
+  pub core-add : (m : Message) → Fine h es issued (top 0 (take n log)) m → ((o : ℕ) → Asks m o → ⊥) → Core h es issued log n (messages ++ m ∷ []) c
+  core-add m f a = record { visible = k .visible; packets = packets-add messages m f a (k .packets); low = k .low }
+
+  -- a read is answered with what the tail has
+  core-answer : (o x v : ℕ) → begun o (reads (x ∷ [])) ∈ h → v ≡ values (take n log) x → Core h es issued log n (messages ++ Reply o v ∷ []) c
+  core-answer o x v b e =
+      core-add (Reply o v) (inr (x, b, readable-now es (ap (λ (z : ℕ). z ∷ []) (e ∙ sym (k .visible .store x))))) (λ p q. q)
+
+  -- an answer from a replica that has applied the first m writes, where x's stamp is not above the stamp d that the read carries
+  pub core-direct : (o x m d : ℕ) → begun o (reads (x ∷ [])) ∈ h → d ≤ top 0 (take n log) → n ≤ m → stamps (take m log) x ≤ d
+      → Core h es issued log n (messages ++ Reply o (values (take m log) x) ∷ []) c
+  core-direct o x m d b l g s = core-answer o x (values (take m log) x) b (same-value n m d x log (k .visible .rising) g l s)
+
+  -- an answer from the tail
+  pub core-normal : (o x : ℕ) → begun o (reads (x ∷ [])) ∈ h → Core h es issued log n (messages ++ Reply o (values (take n log) x) ∷ []) c
+  core-normal o x b = core-answer o x (values (take n log) x) b refl
+
+  -- ---- the log
+
+  -- another log, of which the tail has applied the same writes
+  core-log : {log' : List Write} → take n log' ≡ take n log → Visible h es issued log' n → Core h es issued log' n messages c
+  core-log same v = record { visible = v; packets = rw same (k .packets); low = rw same (k .low) }
+
+  -- the head applies a stamped write
+  pub core-accept : (w : Write) → w ∈ issued → top 0 log < w .stamp → Core h es issued (log ++ w ∷ []) n messages c
+  core-accept w m r = core-log (take-append-le n log (w ∷ []) (k .visible .fits)) (visible-accept (k .visible) w m r)
+
+  -- the head is removed, and with it what only it has applied
+  pub core-cut : (m : ℕ) → n ≤ m → Core h es issued (take m log) n messages c
+  core-cut m g = core-log (take-take n m log g) (visible-cut (k .visible) m g)
+
+  -- the tail has applied one write more; d is any write
+  pub core-show : (d : Write) → n < length log → Core h (es ++ entry (getD log n d) ∷ []) issued log (suc n) messages c
+  core-show d l =
+      let w : Write = getD log n d in
+      let up : top 0 (take n log) ≤ top 0 (take (suc n) log) = top-take n (suc n) log (k .visible .rising) (omega arith) in
+      record {
+        visible = visible-show (k .visible) d l;
+        packets = packets-grows (record {
+          events = λ e i. i;
+          entries = λ e i. in-left (entry w ∷ []) i;
+          issues = λ u i. i;
+          tops = up;
+          reading = λ o xs vs b r. readable-visible r (entry w) (hidden-unfinished (k .visible) w (drop (suc n) log) (split-at log n d l));
+        }) (k .packets);
+        low = omega (arith, k .low, up);
+      }
+
+  -- ---- the switch's last-committed stamp
+
+  -- a completion
+  pub core-commit : (s : ℕ) → s ≤ top 0 (take n log) → Core h es issued log n messages (max c s)
+  core-commit s l = record { visible = k .visible; packets = k .packets; low = omega (arith, k .low, l) }
+
+  -- a new switch
+  pub core-reset : Core h es issued log n messages 0
+  core-reset = record { visible = k .visible; packets = k .packets; low = omega arith }
+
+-- ---- changes of a message of the list
+
+-- a packet is lost or delivered
+pub core-lose : {h : History} {es : List Entry} {issued log : List Write} {n c : ℕ} (a : List Message) (m : Message) (b : List Message)
+    → Core h es issued log n (a ++ m ∷ b) c → Core h es issued log n (a ++ b) c
+core-lose a m b k = record { visible = k .visible; packets = packets-lose a m b (k .packets); low = k .low }
+
+-- the switch stamps a write, and sends it to replica r
+pub core-stamp : {h : History} {es : List Entry} {issued log : List Write} {n c : ℕ} (a b : List Message) (w : Write) (r : ℕ)
+    → Core h es issued log n (a ++ UnstampedWrite (w .operation) (w .object) (w .value) ∷ b) c
+    → Core h es (issued ++ w ∷ []) log n (a ++ b ++ StampedWrite r w ∷ []) c
+core-stamp a b w r k =
+    let asked : Message = UnstampedWrite (w .operation) (w .object) (w .value) in
+    let i = inserted a asked b in
+    record {
+      visible = visible-stamp (k .visible) w (k .packets .fine asked i) (λ u j e. k .packets .unstamped asked (w .operation) i refl u j e);
+      packets = packets-stamp a b w r (k .packets);
+      low = k .low;
+    }
+
+-- ---- changes made of several
+
+-- what `getD` gives past the end
+no-write : Write
+no-write = record { operation = 0; object = 0; value = 0; stamp = 0 }
+
+-- the tail has applied j writes more, and m in all
+reveal-by : {h : History} {issued log : List Write} {messages : List Message} {c : ℕ} (j m n : ℕ) (es : List Entry) → n + j ≡ m → m ≤ length log
+    → Core h es issued log n messages c → Core h (shows es (slice n m log)) issued log m messages c
+reveal-by {h} {issued} {log} {messages} {c} zero m n es e l k =
+    let same : n ≡ m = omega (arith, e) in
+    rw (same, slice-empty) (subst (λ (i : ℕ). Core h es issued log i messages c) same k)
+reveal-by {log} (suc j) m n es e l k =
+    rw (slice-cons n m log no-write (omega (arith, e)) l)
+    (reveal-by j m (suc n) (es ++ entry (getD log n no-write) ∷ []) (omega arith) l (core-show k no-write (omega (arith, e))))
+
+module _ {h : History} {es : List Entry} {issued log : List Write} {n : ℕ} {messages : List Message} {c : ℕ} (k : Core h es issued log n messages c) where
+  -- the tail has applied m writes
+  pub core-reveal : (m : ℕ) → n ≤ m → m ≤ length log → Core h (shows es (slice n m log)) issued log m messages c
+  core-reveal m g l = reveal-by (m - n) m n es (omega arith) l k
+
+  -- the tail sends a reply and a completion for a write that it has applied
+  pub core-sent : (w : Write) → w ∈ take n log → entry w ∈ es
+      → Core h es issued log n (messages ++ Reply (w .operation) (w .value) ∷ Completion (w .object) (w .stamp) ∷ []) c
+  core-sent w m i =
+      let replied = core-add k (Reply (w .operation) (w .value)) (inl (entry w, i, refl, refl)) (λ p q. q) in
+      let low = below-top 0 (take n log) w (rising-take 0 n log (k .visible .rising)) m in
+      rw append-assoc at (core-add replied (Completion (w .object) (w .stamp)) low (λ p q. q))
+
+  -- a write begins
+  pub core-ask : (o x v : ℕ) → New h o → Core (begun o (writes x v) ∷ h) es issued log n (messages ++ UnstampedWrite o x v ∷ []) c
+  core-ask o x v w =
+      let begins = core-begin k o (writes x v) w in
+      record {
+        visible = begins .visible;
+        packets = packets-ask messages o x v (here refl)
+            (λ q i a. w (packets-begun (k .packets) q i a))
+            (λ u i e. w (writes (u .object) (u .value), begun-at e (k .visible .meant u i)))
+            (begins .packets);
+        low = begins .low;
+      }

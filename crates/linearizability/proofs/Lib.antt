@@ -1,0 +1,7 @@
+-- The order of operations of every run: proofs.
+pub mod Members
+pub mod Visible
+pub mod Packets
+pub mod Core
+pub mod Order
+pub mod Bounds

@@ -1,0 +1,85 @@
+-- The order as a function of what a step shows and of the history: a write that becomes visible goes to its end, a read that finishes to the last place
+-- at which its objects hold the values that it gave.
+use mathlib.Core.Path.{_≡_, refl, ap, subst}
+use mathlib.Core.Logic.{_⊎_, inl, inr}
+use mathlib.Core.Bool.{true, false, cond}
+use mathlib.Core.List.{List, [], _∷_, _++_, append-nil}
+use Prim.Native.Nat.{ℕ, _≤_}
+use lib.Dec.{eqb}
+use lib.ListN.{length, take, drop, take-append-drop}
+use lib.Seq.{slice}
+use Rattle.history.specs.History.{_∈_, Kind, reads, writes, History, begun, finished}
+use Rattle.history.proofs.Lists.{here, there, no-member, in-right, inserted}
+use Rattle.history.proofs.Tests.{by-test, eqb-true, eqb-false}
+use Rattle.history.proofs.Entries.{Entry, Unfinished}
+use Rattle.history.proofs.Growth.{older, begun-not-finished, begun-at, unfinished-read-out}
+use Rattle.history.proofs.Place.{with-read, readable-last}
+use Rattle.history.proofs.Claim.{numbers, in-numbers, of-numbers}
+use Rattle.replicas.specs.declared.Write.{Write}
+use Rattle.protocol.specs.declared.Message.{Message}
+use Rattle.protocol.specs.declared.Message.the-variants.{Completion, Reply}
+use Rattle.linearizability.proofs.Members.{has, has-true, has-false}
+use Rattle.linearizability.proofs.Visible.{entry, shows}
+use Rattle.linearizability.proofs.Packets.{Answered}
+use Rattle.linearizability.proofs.Core.{Core, core-finish, core-reply, core-reveal, core-sent}
+
+-- the objects that an operation of this kind reads
+abbrev pub objects : Kind → List ℕ
+objects (reads xs) = xs
+objects (writes x v) = []
+
+-- the objects that operation o reads: none if it is no read of the history
+unfoldable pub objectsOf : ℕ → History → List ℕ
+objectsOf o [] = []
+objectsOf o (begun p k ∷ h) = cond (eqb o p) (objects k) (objectsOf o h)
+objectsOf o (finished p vs ∷ h) = objectsOf o h
+
+-- the order when operation o finishes with the values vs: as it was if o is in it, and else with the read o
+unfoldable pub finishOrder : History → ℕ → List ℕ → List Entry → List Entry
+finishOrder h o vs es = cond (has o (numbers es)) es (with-read o (objectsOf o h) vs es)
+
+-- the objects of an operation that was begun with one kind
+pub objects-of : (h : History) {o : ℕ} {k : Kind} → ((p : ℕ) (i j : Kind) → begun p i ∈ h → begun p j ∈ h → i ≡ j) → begun o k ∈ h → objectsOf o h ≡ objects k
+unfolding objectsOf
+objects-of [] u m = absurd (no-member m)
+objects-of (begun p j ∷ h) {o} {k} u m =
+    by-test (λ (xs : List ℕ). xs ≡ objects k) (eqb o p) _ _
+    (λ e. ap objects (u p j k (here refl) (begun-at (eqb-true o p e) m)))
+    (λ e. objects-of h (λ q i l a b. u q i l (there a) (there b)) (older m (λ q. eqb-false o p e (cc))))
+objects-of (finished p vs ∷ h) u m = objects-of h (λ q i l a b. u q i l (there a) (there b)) (older m begun-not-finished)
+
+-- an element of a back part
+in-drop : {A : Type 0} {x : A} (n : ℕ) (l : List A) → x ∈ drop n l → x ∈ l
+in-drop {A} {x} n l m = subst (λ (k : List A). x ∈ k) (take-append-drop n l) (in-right (take n l) m)
+
+-- what is sent when these writes become visible: nothing, or for one write a reply and a completion
+abbrev pub Sent : List Write → List Message → Type 0
+Sent ws ms = (ms ≡ []) ⊎ ((w : Write) × (ws ≡ w ∷ []) × (ms ≡ Reply (w .operation) (w .value) ∷ Completion (w .object) (w .stamp) ∷ []))
+
+module _ {h : History} {es : List Entry} {issued log : List Write} {n : ℕ} {messages : List Message} {c : ℕ} (k : Core h es issued log n messages c) where
+  -- the tail has applied the first n' writes, and sends for the new ones
+  pub core-outcome : {n' : ℕ} → n ≤ n' → n' ≤ length log → (ms : List Message) → Sent (slice n n' log) ms
+      → Core h (shows es (slice n n' log)) issued log n' (messages ++ ms) c
+  core-outcome {n'} g l ms (inl e) = rw (e, append-nil) (core-reveal k n' g l)
+  core-outcome {n'} g l ms (inr t) =
+      rw (t .2) (core-sent (core-reveal k n' g l) (t .0) (in-drop n (take n' log) (rw (t .1) (here refl))) (rw (t .1) (inserted es (entry (t .0)) [])))
+
+  -- an operation that has been answered finishes
+  pub core-finishes : (o v : ℕ) → Answered h es o v → Unfinished h o → Core (finished o (v ∷ []) ∷ h) (finishOrder h o (v ∷ []) es) issued log n messages c
+  unfolding finishOrder
+  core-finishes o v f w = by-test Finishes (has o (numbers es)) _ _ (inside f) (outside f)
+    where
+      Finishes : List Entry → Type 0
+      Finishes l = Core (finished o (v ∷ []) ∷ h) l issued log n messages c
+
+      inside : Answered h es o v → has o (numbers es) ≡ true → Finishes es
+      inside (inl f) e = core-finish k f
+      inside (inr f) e =
+          let t = of-numbers es (has-true o (numbers es) e) in
+          absurd (unfinished-read-out (k .visible .linearizes) (f .1) w (t .0) (t .1) (t .2))
+
+      outside : Answered h es o v → has o (numbers es) ≡ false → Finishes (with-read o (objectsOf o h) (v ∷ []) es)
+      outside (inl f) e = absurd (has-false o (numbers es) e (subst (λ (p : ℕ). p ∈ numbers es) (f .2) (in-numbers (f .1))))
+      outside (inr f) e =
+          let r = readable-last (f .2) in
+          rw (objects-of h (k .visible .linearizes .one-kind) (f .1), ← (r .1)) (core-reply k (f .1) w (r .0))

@@ -1,0 +1,158 @@
+-- The waiting packets, as messages, and what holds of each: facts that stay true while the history grows.
+use mathlib.Core.Path.{_≡_, refl, sym, ap, _∙_, subst}
+use mathlib.Core.Logic.{_⊎_, inl, inr, _≢_}
+use mathlib.Core.List.{List, [], _∷_, _++_}
+use Prim.Native.Nat.{ℕ, _≤_}
+use native.Mathlib.Omega.{arith}
+use Rattle.history.specs.History.{_∈_, reads, writes, Event, History, begun, Begun}
+use Rattle.history.proofs.Lists.{here, there, no-member, only-member, cases-append, in-left, in-right, in-insert, Pairwise, pairwise-snoc, pairwise-remove, pairwise-at}
+use Rattle.history.proofs.Entries.{Entry, InOrder}
+use Rattle.history.proofs.Growth.{begun-at}
+use Rattle.history.proofs.Readable.{Readable}
+use Rattle.replicas.specs.declared.Write.{Write}
+use Rattle.protocol.specs.declared.Message.{Message}
+use Rattle.protocol.specs.declared.Message.the-variants.{UnstampedWrite, SwitchRead, StampedWrite, DirectRead, NormalRead, Completion, Reply, Unknown}
+
+-- operation o is in the order with the value v, or is a read that can be put into it with the value v
+abbrev pub Answered : History → List Entry → ℕ → ℕ → Type 0
+Answered h es o v = InOrder es o (v ∷ []) ⊎ ((x : ℕ) × (begun o (reads (x ∷ [])) ∈ h) × Readable h es o (x ∷ []) (v ∷ []))
+
+-- what holds of a message; t is the tail's highest stamp
+abbrev pub Fine : History → List Entry → List Write → ℕ → Message → Type 0
+Fine h es issued t (UnstampedWrite o x v) = begun o (writes x v) ∈ h
+Fine h es issued t (SwitchRead o x) = begun o (reads (x ∷ [])) ∈ h
+Fine h es issued t (StampedWrite r w) = w ∈ issued
+Fine h es issued t (DirectRead r number c o x) = (begun o (reads (x ∷ [])) ∈ h) × (c ≤ t)
+Fine h es issued t (NormalRead r o x) = begun o (reads (x ∷ [])) ∈ h
+Fine h es issued t (Completion x s) = s ≤ t
+Fine h es issued t (Reply o v) = Answered h es o v
+Fine h es issued t Unknown = Unit {0}
+
+-- the message is the unstamped write of operation p
+abbrev pub Asks : Message → ℕ → Type 0
+Asks (UnstampedWrite o x v) p = o ≡ p
+Asks (SwitchRead o x) p = ⊥
+Asks (StampedWrite r w) p = ⊥
+Asks (DirectRead r number c o x) p = ⊥
+Asks (NormalRead r o x) p = ⊥
+Asks (Completion x s) p = ⊥
+Asks (Reply o v) p = ⊥
+Asks Unknown p = ⊥
+
+-- two messages are not the unstamped writes of one operation
+abbrev pub Differ : Message → Message → Type 0
+Differ m q = (o : ℕ) → Asks m o → Asks q o → ⊥
+
+-- what holds of the waiting messages
+pub record Packets (h : History) (es : List Entry) (issued : List Write) (t : ℕ) (messages : List Message) : Type 0 where
+  pub fine : (m : Message) → m ∈ messages → Fine h es issued t m
+  -- an operation's unstamped write waits once at the most, and then has no stamp yet
+  pub once : Pairwise Differ messages
+  pub unstamped : (m : Message) (o : ℕ) → m ∈ messages → Asks m o → (w : Write) → w ∈ issued → w .operation ≢ o
+
+-- no packet waits
+pub packets-start : {h : History} {es : List Entry} {issued : List Write} {t : ℕ} → Packets h es issued t []
+packets-start = record { fine = λ m i. absurd (no-member i); once = tt; unstamped = λ m o i. absurd (no-member i) }
+
+-- ---- the facts stay true
+
+-- a later history, order, list of stamped writes and highest stamp
+pub record Grows (h : History) (es : List Entry) (issued : List Write) (t : ℕ) (h' : History) (es' : List Entry) (issued' : List Write) (t' : ℕ) : Type 0 where
+  pub events : (e : Event) → e ∈ h → e ∈ h'
+  pub entries : (e : Entry) → e ∈ es → e ∈ es'
+  pub issues : (w : Write) → w ∈ issued → w ∈ issued'
+  pub tops : t ≤ t'
+  pub reading : (o : ℕ) (xs vs : List ℕ) → Begun h o → Readable h es o xs vs → Readable h' es' o xs vs
+
+module _ {h : History} {es : List Entry} {issued : List Write} {t : ℕ} where
+  -- an event
+  pub grows-event : {e : Event} {es' : List Entry} → ((f : Entry) → f ∈ es → f ∈ es')
+      → ((o : ℕ) (xs vs : List ℕ) → Begun h o → Readable h es o xs vs → Readable (e ∷ h) es' o xs vs) → Grows h es issued t (e ∷ h) es' issued t
+  grows-event old r = record { events = λ f i. there i; entries = old; issues = λ w i. i; tops = omega arith; reading = r }
+
+  -- what holds of a message stays true
+  pub fine-grows : {h' : History} {es' : List Entry} {issued' : List Write} {t' : ℕ} → Grows h es issued t h' es' issued' t'
+      → (m : Message) → Fine h es issued t m → Fine h' es' issued' t' m
+  fine-grows g (UnstampedWrite o x v) f = g .events _ f
+  fine-grows g (SwitchRead o x) f = g .events _ f
+  fine-grows g (StampedWrite r w) f = g .issues w f
+  fine-grows g (DirectRead r number c o x) f = (g .events _ (f .0), omega (arith, g .tops, f .1))
+  fine-grows g (NormalRead r o x) f = g .events _ f
+  fine-grows g (Completion x s) f = omega (arith, g .tops, f)
+  fine-grows g (Reply o v) (inl f) = inl (f .0, g .entries (f .0) (f .1), f .2, f .3)
+  fine-grows g (Reply o v) (inr f) = inr (f .0, g .events _ (f .1), g .reading o (f .0 ∷ []) (v ∷ []) (reads (f .0 ∷ []), f .1) (f .2))
+  fine-grows g Unknown f = tt
+
+  -- what holds of the waiting messages stays true
+  pub packets-grows : {h' : History} {es' : List Entry} {t' : ℕ} {messages : List Message} → Grows h es issued t h' es' issued t'
+      → Packets h es issued t messages → Packets h' es' issued t' messages
+  packets-grows g b = record { fine = λ m i. fine-grows g m (b .fine m i); once = b .once; unstamped = b .unstamped }
+
+  -- the operation of an unstamped write that waits was begun
+  pub packets-begun : {messages : List Message} → Packets h es issued t messages → (m : Message) {o : ℕ} → m ∈ messages → Asks m o → Begun h o
+  packets-begun p (UnstampedWrite q x v) i a = (writes x v, begun-at a (p .fine (UnstampedWrite q x v) i))
+  packets-begun p (SwitchRead q x) i a = absurd a
+  packets-begun p (StampedWrite r w) i a = absurd a
+  packets-begun p (DirectRead r number c q x) i a = absurd a
+  packets-begun p (NormalRead r q x) i a = absurd a
+  packets-begun p (Completion x s) i a = absurd a
+  packets-begun p (Reply q v) i a = absurd a
+  packets-begun p Unknown i a = absurd a
+
+  -- ---- messages leave the list and join it
+
+  -- one is lost or delivered
+  pub packets-lose : (a : List Message) (m : Message) (b : List Message) → Packets h es issued t (a ++ m ∷ b) → Packets h es issued t (a ++ b)
+  packets-lose a m b p = record {
+    fine = λ q i. p .fine q (in-insert a m b i);
+    once = pairwise-remove Differ a m b (p .once);
+    unstamped = λ q o i k. p .unstamped q o (in-insert a m b i) k;
+  }
+
+  -- one joins the list; if it is an unstamped write, none of its operation waits and none is stamped
+  packets-join : (messages : List Message) (m : Message) → Fine h es issued t m
+      → ((o : ℕ) → Asks m o → ((q : Message) → q ∈ messages → Asks q o → ⊥) × ((w : Write) → w ∈ issued → w .operation ≢ o))
+      → Packets h es issued t messages → Packets h es issued t (messages ++ m ∷ [])
+  packets-join messages m f new p = record {
+    fine = λ q i. elim (cases-append messages i) [ inl j ↦ p .fine q j | inr j ↦ subst (Fine h es issued t) (sym (only-member j)) f ];
+    once = pairwise-snoc Differ messages m (p .once) (λ q i o k l. new o l .0 q i k);
+    unstamped = λ q o i k. elim (cases-append messages i) [
+      | inl j ↦ p .unstamped q o j k
+      | inr j ↦ new o (subst (λ (z : Message). Asks z o) (only-member j) k) .1
+    ];
+  }
+
+  -- one that is no unstamped write
+  pub packets-add : (messages : List Message) (m : Message) → Fine h es issued t m → ((o : ℕ) → Asks m o → ⊥)
+      → Packets h es issued t messages → Packets h es issued t (messages ++ m ∷ [])
+  packets-add messages m f n = packets-join messages m f (λ o a. absurd (n o a))
+
+  -- the unstamped write of an operation of which none waits and none is stamped
+  pub packets-ask : (messages : List Message) (o x v : ℕ) → begun o (writes x v) ∈ h → ((q : Message) → q ∈ messages → Asks q o → ⊥)
+      → ((w : Write) → w ∈ issued → w .operation ≢ o) → Packets h es issued t messages → Packets h es issued t (messages ++ UnstampedWrite o x v ∷ [])
+  packets-ask messages o x v f n u =
+      packets-join messages (UnstampedWrite o x v) f (λ p e. (λ q i k. n q i (subst (Asks q) (sym e) k), λ w j z. u w j (z ∙ sym e)))
+
+-- the switch stamps a write: its unstamped message goes, the stamped one comes
+pub packets-stamp : {h : History} {es : List Entry} {issued : List Write} {t : ℕ} (a b : List Message) (w : Write) (r : ℕ)
+    → Packets h es issued t (a ++ UnstampedWrite (w .operation) (w .object) (w .value) ∷ b)
+    → Packets h es (issued ++ w ∷ []) t (a ++ b ++ StampedWrite r w ∷ [])
+packets-stamp {h} {es} {issued} {t} a b w r p = packets-add (a ++ b) (StampedWrite r w) (in-right issued (here refl)) (λ o k. k) (record {
+  fine = λ q i. fine-grows longer q (rest .fine q i);
+  once = rest .once;
+  unstamped = λ q o i k u j e. elim (cases-append issued j) [
+    | inl l ↦ rest .unstamped q o i k u l e
+    | inr l ↦
+        let z : w .operation ≡ o = sym (ap (λ (v : Write). v .operation) (only-member l)) ∙ e in
+        elim (pairwise-at Differ a asked b (p .once) q i) [ inl d ↦ d o z k | inr d ↦ d o k z ]
+  ];
+})
+  where
+    asked : Message
+    asked = UnstampedWrite (w .operation) (w .object) (w .value)
+
+    rest : Packets h es issued t (a ++ b)
+    rest = packets-lose a asked b p
+
+    longer : Grows h es issued t h es (issued ++ w ∷ []) t
+    longer = record { events = λ e i. i; entries = λ e i. i; issues = λ u i. in-left (w ∷ []) i; tops = omega arith; reading = λ o xs vs n d. d }

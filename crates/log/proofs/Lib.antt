@@ -1,0 +1,4 @@
+pub mod Log
+pub mod Holds
+pub mod Shows
+pub mod Moves
