@@ -1,0 +1,2 @@
+-- What demand 3 speaks of.
+pub mod Run

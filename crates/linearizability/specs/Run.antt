@@ -1,0 +1,50 @@
+-- The run that demand 3 speaks of: what happened in it, 'read from the steps and their answers, never from the model's own record'.
+use mathlib.Core.List.{List, [], _∷_}
+use Prim.Native.Nat.{ℕ, suc}
+use Rattle.history.specs.History.{Kind, reads, writes, History, begun, finished}
+use Rattle.protocol.specs.declared.Answer.{Answer}
+use Rattle.protocol.specs.declared.Answer.the-variants.{Done, Finished, Refused}
+use Rattle.protocol.specs.declared.Step.{Step}
+use Rattle.protocol.specs.declared.Step.the-variants.{Start, BeginRead, BeginWrite, Deliver, Lose, Repeat, Advance, Replace, Tell, Remove, GiveUp}
+use Rattle.protocol.specs.Steps.{Machine, answerTo, after, started}
+
+-- how many operations have begun
+abbrev pub begunCount : History → ℕ
+begunCount [] = 0
+begunCount (begun o k ∷ h) = suc (begunCount h)
+begunCount (finished o vs ∷ h) = begunCount h
+
+-- 'The k-th accepted begin starts operation k, with the kind, the object and a write's value as that step gives them. A refused begin starts nothing.'
+abbrev pub beginning : Kind → Answer → History → History
+beginning k Done h = begun (suc (begunCount h)) k ∷ h
+beginning k (Finished o v) h = begun (suc (begunCount h)) k ∷ h
+beginning k (Refused r) h = h
+
+-- 'An operation finishes at the accepted deliver whose answer names it, with its value, as just finished.'
+abbrev pub ending : Answer → History → History
+ending Done h = h
+ending (Finished o v) h = finished o (v ∷ []) ∷ h
+ending (Refused r) h = h
+
+-- the history, one step later
+abbrev pub noted : Step → Answer → History → History
+noted (Start n) a h = h
+noted (BeginRead x) a h = beginning (reads (x ∷ [])) a h
+noted (BeginWrite x v) a h = beginning (writes x v) a h
+noted (Deliver at choice) a h = ending a h
+noted (Lose at) a h = h
+noted (Repeat at) a h = h
+noted (Advance r) a h = h
+noted (Replace number) a h = h
+noted (Tell r) a h = h
+noted (Remove r) a h = h
+noted (GiveUp o) a h = h
+
+-- 'Each step gets the state, the waiting packets and the open operations .. as the step before returned or left them'
+abbrev pub historyFrom : Machine → History → List Step → History
+historyFrom m h [] = h
+historyFrom m h (x ∷ xs) = historyFrom (after m x) (noted x (answerTo m x) h) xs
+
+-- what happened in the run of these steps from an empty store of n replicas
+abbrev pub historyOf : ℕ → List Step → History
+historyOf n xs = historyFrom (started n) [] xs
