@@ -5,3 +5,6 @@ pub mod Packets
 pub mod Core
 pub mod Order
 pub mod Bounds
+pub mod Waits
+pub mod Invariant
+pub mod Deliveries

@@ -181,6 +181,11 @@ places-edited w e = rw (edited-is w e) (places-adding (afterTaking w e) e ∙ ke
     kept true t = rw (takes w e t) (places-taken w (e .at))
     kept false t = rw (keeps w e t)
 
+-- an edit that takes no packet out and adds none changes nothing
+pub edited-none : (w : WaitingList) (e : Edit) → e .take ≡ false → e .add ≡ 0 → edited w e ≡ w
+unfolding adding
+edited-none w e t n = rw (edited-is w e, keeps w e t, n)
+
 -- as many places as the code's type gives: a list of specs/ alone may have any number
 abbrev pub Sized : WaitingList → Type 0
 Sized w = length (w .packets) ≡ limits.waiting

@@ -1,0 +1,121 @@
+-- The messages that wait, and what each edit of the waiting list does to them.
+use mathlib.Core.Path.{_≡_, refl, sym, ap, _∙_}
+use mathlib.Core.Bool.{true, false}
+use mathlib.Core.List.{List, [], _∷_, _++_, map, append-nil}
+use Prim.Native.Nat.{ℕ, zero, suc, _+_, _-_, _≤_, _<_}
+use native.Mathlib.Omega.{arith}
+use lib.ListN.{length, take, drop, getD, length-append, length-map, List·getD-map}
+use lib.Seq.{split-at}
+use borrow.Author.Tests.{ltb-false}
+use Rattle.lists.specs.{without}
+use Rattle.lists.proofs.Closing.{length-without}
+use Rattle.waiting.specs.declared.Packet.{Packet}
+use Rattle.waiting.specs.declared.Edit.{Edit}
+use Rattle.waiting.specs.declared.WaitingList.{WaitingList}
+use Rattle.waiting.specs.Waiting.{blank, waits, held, lookAt, added, afterTaking, edited}
+use Rattle.waiting.proofs.Laws.{Sized, length-waits, look-is, waits-edited-taking, waits-edited-keeping}
+use Rattle.protocol.specs.declared.Message.{Message}
+use Rattle.protocol.specs.declared.Message.the-variants.{UnstampedWrite, SwitchRead, StampedWrite, DirectRead, NormalRead, Completion, Reply, Unknown}
+use Rattle.protocol.specs.Messages.{packetOf, messageOf}
+use Rattle.protocol.specs.Decisions.{noEdit, takeOut, takeOutAdd, takeOutAddTwo, addOne, addTwo, overfull}
+
+-- a packet holds the message that it was made of
+pub message-packet : (m : Message) → messageOf (packetOf m) ≡ m
+unfolding messageOf packetOf
+message-packet (UnstampedWrite o x v) = refl
+message-packet (SwitchRead o x) = refl
+message-packet (StampedWrite r w) = refl
+message-packet (DirectRead r number t o x) = refl
+message-packet (NormalRead r o x) = refl
+message-packet (Completion x t) = refl
+message-packet (Reply o v) = refl
+message-packet Unknown = refl
+
+abbrev pub messages : WaitingList → List Message
+messages w = map messageOf (waits w)
+
+-- the messages before a position, and those behind it
+abbrev pub front : ℕ → WaitingList → List Message
+front at w = take at (messages w)
+
+abbrev pub back : ℕ → WaitingList → List Message
+back at w = drop (suc at) (messages w)
+
+-- `map` and the parts of a list
+module _ {A B : Type 0} (f : A → B) where
+  map-append : (l r : List A) → map f (l ++ r) ≡ map f l ++ map f r
+  map-append [] r = refl
+  map-append (x ∷ l) r = ap (λ (t : List B). f x ∷ t) (map-append l r)
+
+  map-take : (n : ℕ) (l : List A) → map f (take n l) ≡ take n (map f l)
+  map-take zero l = refl
+  map-take (suc n) [] = refl
+  map-take (suc n) (x ∷ l) = ap (λ (t : List B). f x ∷ t) (map-take n l)
+
+  map-drop : (n : ℕ) (l : List A) → map f (drop n l) ≡ drop n (map f l)
+  map-drop zero l = refl
+  map-drop (suc n) [] = refl
+  map-drop (suc n) (x ∷ l) = map-drop n l
+
+  map-without : (l : List A) (i : ℕ) → map f (without l i) ≡ take i (map f l) ++ drop (suc i) (map f l)
+  unfolding without
+  map-without l i = map-append (take i l) (drop (suc i) l) ∙ rw (map-take i l, map-drop (suc i) l)
+
+pub length-messages : (w : WaitingList) → length (messages w) ≡ held w
+length-messages w = length-map (waits w) messageOf ∙ length-waits w
+
+-- the message at a position
+pub at-position : (w : WaitingList) (at : ℕ) → at < held w → messages w ≡ front at w ++ messageOf (lookAt w at) ∷ back at w
+at-position w at h =
+    split-at (messages w) at (messageOf blank) (omega (arith, length-messages w)) ∙
+    ap (λ (m : Message). front at w ++ m ∷ back at w) (List·getD-map messageOf (waits w) at blank ∙ ap messageOf (sym (look-is w at)))
+
+-- ---- edits
+
+pub edited-nothing : (w : WaitingList) → edited w noEdit ≡ w
+unfolding edited afterTaking
+edited-nothing w = refl
+
+taking : (w : WaitingList) (e : Edit) → Sized w → e .take ≡ true → e .at < held w → held w + length (added e) ≤ 65
+    → messages (edited w e) ≡ (front (e .at) w ++ back (e .at) w) ++ map messageOf (added e)
+taking w e s t h k =
+    ap (map messageOf) (waits-edited-taking w e t h (rw length-append (omega (arith, s, length-without (waits w) (e .at) (omega (arith, length-waits w)), length-waits w))))
+    ∙ map-append messageOf (without (waits w) (e .at)) (added e)
+    ∙ ap (λ (l : List Message). l ++ map messageOf (added e)) (map-without messageOf (waits w) (e .at))
+
+keeping : (w : WaitingList) (e : Edit) → Sized w → e .take ≡ false → held w + length (added e) ≤ 64 → messages (edited w e) ≡ messages w ++ map messageOf (added e)
+keeping w e s t k =
+    ap (map messageOf) (waits-edited-keeping w e t (rw length-append (omega (arith, s, length-waits w)))) ∙ map-append messageOf (waits w) (added e)
+
+-- what the test of the list's limit leaves
+pub room : (w : WaitingList) (out add : ℕ) → overfull (held w) out add ≡ false → held w ≤ 64 + out - add
+unfolding overfull
+room w out add e = ltb-false (64 + out - add) (held w) e
+
+module _ (w : WaitingList) (s : Sized w) (at : ℕ) (h : at < held w) (most : held w ≤ 64) where
+  pub taken-out : messages (edited w (takeOut at)) ≡ front at w ++ back at w
+  unfolding added
+  taken-out = taking w (takeOut at) s refl h (omega arith) ∙ append-nil (front at w ++ back at w)
+
+  pub taken-out-add : (m : Message) → messages (edited w (takeOutAdd at (packetOf m))) ≡ (front at w ++ back at w) ++ m ∷ []
+  unfolding added
+  taken-out-add m =
+      taking w (takeOutAdd at (packetOf m)) s refl h (omega arith) ∙ ap (λ (q : Message). (front at w ++ back at w) ++ q ∷ []) (message-packet m)
+
+  pub taken-out-add-two : (m q : Message) → overfull (held w) 1 2 ≡ false → messages (edited w (takeOutAddTwo at (packetOf m) (packetOf q))) ≡ (front at w ++ back at w) ++ m ∷ q ∷ []
+  unfolding added
+  taken-out-add-two m q e =
+      taking w (takeOutAddTwo at (packetOf m) (packetOf q)) s refl h (omega (arith, room w 1 2 e)) ∙ rw (message-packet m, message-packet q)
+
+module _ (w : WaitingList) (s : Sized w) where
+  -- any packet comes to the end
+  pub added-packet : (p : Packet) → overfull (held w) 0 1 ≡ false → messages (edited w (addOne p)) ≡ messages w ++ messageOf p ∷ []
+  unfolding added
+  added-packet p e = keeping w (addOne p) s refl (omega (arith, room w 0 1 e))
+
+  pub added-one : (m : Message) → overfull (held w) 0 1 ≡ false → messages (edited w (addOne (packetOf m))) ≡ messages w ++ m ∷ []
+  added-one m e = added-packet (packetOf m) e ∙ ap (λ (q : Message). messages w ++ q ∷ []) (message-packet m)
+
+  pub added-two : (m q : Message) → overfull (held w) 0 2 ≡ false → messages (edited w (addTwo (packetOf m) (packetOf q))) ≡ messages w ++ m ∷ q ∷ []
+  unfolding added
+  added-two m q e = keeping w (addTwo (packetOf m) (packetOf q)) s refl (omega (arith, room w 0 2 e)) ∙ rw (message-packet m, message-packet q)
