@@ -8,3 +8,6 @@ pub mod Bounds
 pub mod Waits
 pub mod Invariant
 pub mod Deliveries
+pub mod Removal
+pub mod Steps
+pub mod OneOrder

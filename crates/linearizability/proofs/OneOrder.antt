@@ -1,0 +1,58 @@
+-- Demand 3: every run from an empty store has one order of its operations, and it is computed from the run.
+use mathlib.Core.Path.{_≡_, refl, sym}
+use mathlib.Core.List.{List, [], _∷_}
+use Prim.Native.Nat.{ℕ, _≤_}
+use Rattle.history.specs.History.{History}
+use Rattle.history.specs.Linearizability.{OneOrder}
+use Rattle.history.proofs.Lists.{no-member}
+use Rattle.history.proofs.Entries.{Entry, Linearizes}
+use Rattle.history.proofs.Claim.{numbers, one-order-of}
+use Rattle.operations.specs.{noneOpen}
+use Rattle.operations.proofs.Laws.{none-open}
+use Rattle.switch.specs.DirtySet.{newSwitch}
+use Rattle.switch.proofs.Laws.{new-committed}
+use Rattle.waiting.specs.Waiting.{noneWait}
+use Rattle.waiting.proofs.Laws.{waits-none, sized-none}
+use Rattle.protocol.specs.declared.Message.{Message}
+use Rattle.protocol.specs.declared.Step.{Step}
+use Rattle.protocol.specs.Messages.{messageOf}
+use Rattle.protocol.specs.Steps.{Machine, startState, answerTo, after, started}
+use Rattle.log.proofs.Shows.{shows-start}
+use Rattle.linearizability.specs.Run.{noted, historyFrom, historyOf}
+use Rattle.linearizability.proofs.Core.{core-start}
+use Rattle.linearizability.proofs.Waits.{messages}
+use Rattle.linearizability.proofs.Invariant.{Books, Good, orderNext}
+use Rattle.linearizability.proofs.Deliveries.{good-of}
+use Rattle.linearizability.proofs.Steps.{good-step}
+
+-- the order of a run, step by step
+abbrev pub orderFrom : Machine → History → List Entry → List Step → List Entry
+orderFrom m h es [] = es
+orderFrom m h es (x ∷ xs) = orderFrom (after m x) (noted x (answerTo m x) h) (orderNext m (after m x) (answerTo m x) h es) xs
+
+-- the order of the operations of a run from an empty store of n replicas
+abbrev pub orderOf : ℕ → List Step → List ℕ
+orderOf n xs = numbers (orderFrom (started n) [] [] xs)
+
+-- an empty store
+no-messages : messages noneWait ≡ []
+no-messages = rw waits-none
+
+pub good-start : (n : ℕ) → 1 ≤ n → n ≤ 8 → Good (started n) [] []
+unfolding started startState
+good-start n low high =
+    good-of [] [] 0 [] no-messages (rw (new-committed 1) core-start) (shows-start n low high) (λ p m. absurd (no-member m))
+    (record { opened = λ o e. absurd (none-open o e); numbered = refl; bounded = λ o b. absurd (no-member (b .1)); ranged = λ o k i. absurd (no-member i) }) sized-none
+
+-- one step of the machine keeps the invariant
+pub good-after : {m : Machine} {h : History} {es : List Entry} → Good m h es → (x : Step) → Good (after m x) (noted x (answerTo m x) h) (orderNext m (after m x) (answerTo m x) h es)
+unfolding after answerTo
+good-after g x = good-step g x
+
+run-linearizes : (xs : List Step) (m : Machine) (h : History) (es : List Entry) → Good m h es → Linearizes (historyFrom m h xs) (orderFrom m h es xs)
+run-linearizes [] m h es g = g .core .visible .linearizes
+run-linearizes (x ∷ xs) m h es g = run-linearizes xs (after m x) (noted x (answerTo m x) h) (orderNext m (after m x) (answerTo m x) h es) (good-after g x)
+
+-- FOR EVERY NUMBER OF REPLICAS FROM 1 TO 8 AND EVERY LIST OF STEPS, refused ones included, one order explains the whole run
+pub one-order : (n : ℕ) → 1 ≤ n → n ≤ 8 → (xs : List Step) → OneOrder (historyOf n xs) (orderOf n xs)
+one-order n low high xs = one-order-of (run-linearizes xs (started n) [] [] (good-start n low high))
