@@ -31,8 +31,7 @@ without-largest m l p = go (has (suc m) l) refl
     go : (b : Bool) → has (suc m) l ≡ b → (k : List ℕ) × OnceUpTo m k × (length l ≤ suc (length k))
     go true e =
         let c = cut-at l (has-true (suc m) l e) in
-        let once = subst (Pairwise (λ x y. x ≢ y)) (c .2) (p .0) in
-        (
+        let once = subst (Pairwise (λ x y. x ≢ y)) (c .2) (p .0) in (
           c .0 ++ c .1,
           (
             pairwise-remove (λ x y. x ≢ y) (c .0) (suc m) (c .1) once,

@@ -184,7 +184,7 @@ module _ {m : Machine} {h : History} {es : List Entry} (g : Good m h es) (at cho
         let one : slice (g .n) (suc (g .n)) (g .log ++ w ∷ []) ≡ w ∷ [] = visible-received-lone (g .shown) r w taken first lone in
         let c = core-outcome accepted {n' = suc (g .n)} (omega arith) long (Reply (w .operation) (w .value) ∷ Completion (w .object) (w .stamp) ∷ []) (inr (w, one, refl)) in
         let shown : madeVisible m (done m (keepingOpens (givenBy m) (receiving (m .state) (m .store) r w (answering at w)))) ≡ slice (g .n) (suc (g .n)) (g .log ++ w ∷ []) =
-            rw (s .tail-has, g .shown .tail-has) (visible-received (g .shown) r w taken first (suc (g .n)) (omega arith) long) in
+        rw (s .tail-has, g .shown .tail-has) (visible-received (g .shown) r w taken first (suc (g .n)) (omega arith) long) in
         rw shown
         (good-of (g .issued) (g .log ++ w ∷ []) (suc (g .n)) (rest ++ Reply (w .operation) (w .value) ∷ Completion (w .object) (w .stamp) ∷ [])
         (taken-out-add-two (m .waiting) (g .list-sized) at inside most (Reply (w .operation) (w .value)) (Completion (w .object) (w .stamp)) roomy) c s

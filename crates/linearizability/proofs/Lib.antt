@@ -11,3 +11,5 @@ pub mod Deliveries
 pub mod Removal
 pub mod Steps
 pub mod OneOrder
+pub mod Listing
+pub mod Limits

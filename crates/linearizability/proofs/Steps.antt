@@ -121,7 +121,7 @@ module _ {m : Machine} {h : History} {es : List Entry} (g : Good m h es) (step :
           let next : m .state .last + 1 ≡ suc (begunCount h) = add-one (m .state .last) ∙ ap suc (g .books .numbered) in
           let q : Message = asking isWrite (m .state .last + 1) x v in
           let core : Core (begun (suc (begunCount h)) (cond isWrite (writes x v) (reads (x ∷ []))) ∷ h) es (g .issued) (g .log) (g .n) (messages (m .waiting) ++ q ∷ []) (m .state .switch .committed) =
-              rw next (asked-core g isWrite x v) in
+          rw next (asked-core g isWrite x v) in
           rw (notes, order-stays m (record { state = record { switch = m .state .switch; chain = m .state .chain; last = m .state .last + 1 }; store = m .store; opens = opening (m .opens) (m .state .last + 1); waiting = edited (m .waiting) (addOne (packetOf q)) }) es refl)
           (good-of (g .issued) (g .log) (g .n) (messages (m .waiting) ++ q ∷ []) (added-one (m .waiting) (g .list-sized) q roomy) core (g .shown)
           (posted-add {c = m .state .chain} (messages (m .waiting)) q (g .posted) (asked-placed (m .state .chain) isWrite (m .state .last + 1) x v))
@@ -234,7 +234,7 @@ module _ {m : Machine} {h : History} {es : List Entry} (g : Good m h es) (r : �
       let one : slice (g .n) (suc (g .n)) (g .log) ≡ w ∷ [] = visible-advanced-tail (g .shown) r p last in
       let c = core-outcome (g .core) {n' = suc (g .n)} (omega arith) long (Reply (w .operation) (w .value) ∷ Completion (w .object) (w .stamp) ∷ []) (inr (w, one, refl)) in
       let shown : madeVisible m (done m (keepingOpens (givenBy m) (applyingOldest (m .state) (m .store) r (sending w)))) ≡ slice (g .n) (suc (g .n)) (g .log) =
-          rw (s .tail-has, g .shown .tail-has) (visible-advanced (g .shown) r p (suc (g .n)) (omega arith) long) in
+      rw (s .tail-has, g .shown .tail-has) (visible-advanced (g .shown) r p (suc (g .n)) (omega arith) long) in
       rw shown
       (good-of (g .issued) (g .log) (suc (g .n)) (messages (m .waiting) ++ Reply (w .operation) (w .value) ∷ Completion (w .object) (w .stamp) ∷ [])
       (added-two (m .waiting) (g .list-sized) (Reply (w .operation) (w .value)) (Completion (w .object) (w .stamp)) roomy) c s
@@ -288,7 +288,7 @@ module _ {m : Machine} {h : History} {es : List Entry} (g : Good m h es) (r : �
           let long : length (take (t .0) (g .log)) ≡ t .0 = length-take-le (t .0) (g .log) (t .4) in
           let c = core-outcome cut {n' = t .1} (t .2) (omega (arith, long, t .3)) [] (inl refl) in
           let shown : madeVisible m (done m (keeping (givenBy m) (decide (withChain (m .state) (removed (m .state .chain) r)) noEdit))) ≡ slice (g .n) (t .1) (take (t .0) (g .log)) =
-              rw (t .5 .tail-has, g .shown .tail-has) (visible-removed (g .shown) (t .0) (t .1) (t .2) (t .3) (t .4)) in
+          rw (t .5 .tail-has, g .shown .tail-has) (visible-removed (g .shown) (t .0) (t .1) (t .2) (t .3) (t .4)) in
           rw shown
           (good-of (g .issued) (take (t .0) (g .log)) (t .1) (messages (m .waiting)) (ap messages (edited-nothing (m .waiting))) (rw append-nil at c) (t .5)
           (λ q i. placed-removed (m .state .chain) (g .shown .falls) r live several q (g .posted q i)) (g .books) (waiting.sized-edited (m .waiting) noEdit (g .list-sized)))

@@ -141,9 +141,9 @@ module _ {h : History} {es : List Entry} {issued log : List Write} {n : ℕ} (g 
       (rw length-append (let f = g .fits in omega arith))
       (λ u i. elim (cases-append log i) [ inl p ↦ g .log-issued u p | inr p ↦ subst (λ (z : Write). z ∈ issued) (sym (only-member p)) m ])
       (pairwise-snoc Distinct log w (g .log-once) (λ u i q.
-          let e : u ≡ w = same-member (λ (z : Write). z .operation) issued (g .issued-once) (g .log-issued u i) m q in
-          let s : u .stamp ≡ w .stamp = ap (λ (z : Write). z .stamp) e in
-          let b = below-top 0 log u (g .rising) i in omega arith))
+      let e : u ≡ w = same-member (λ (z : Write). z .operation) issued (g .issued-once) (g .log-issued u i) m q in
+      let s : u .stamp ≡ w .stamp = ap (λ (z : Write). z .stamp) e in
+      let b = below-top 0 log u (g .rising) i in omega arith))
 
   -- the head is removed, and with it what only it has applied
   pub visible-cut : (m : ℕ) → n ≤ m → Visible h es issued (take m log) n
@@ -159,7 +159,7 @@ module _ {h : History} {es : List Entry} {issued log : List Write} {n : ℕ} (g 
     hidden e i q =
         let m : w ∈ log = subst (λ (l : List Write). w ∈ l) (sym cut) (inserted (take n log) w rest) in
         let k : e .kind ≡ writes (w .object) (w .value) =
-            g .linearizes .one-kind (w .operation) (e .kind) _ (begun-at q (g .linearizes .recorded e i .0)) (g .meant w (g .log-issued w m)) in
+        g .linearizes .one-kind (w .operation) (e .kind) _ (begun-at q (g .linearizes .recorded e i .0)) (g .meant w (g .log-issued w m)) in
         let s = g .shown e i (subst IsWrite (sym k) tt) in
         pairwise-cross Distinct (take n log) (w ∷ rest) (subst (Pairwise Distinct) cut (g .log-once)) (s .1) (here refl) (s .2 ∙ q)
 

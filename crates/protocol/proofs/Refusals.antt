@@ -1,65 +1,194 @@
 -- What a step answers, and that a refused step changes nothing: of every machine, whatever its lists hold.
-use mathlib.Core.Path.{_≡_, refl, ap, _∙_}
+use mathlib.Core.Path.{_≡_, refl, sym, ap, subst}
 use mathlib.Core.Logic.{_⊎_, inl, inr, _↔_}
 use mathlib.Core.Bool.{Bool, true, false, cond}
 use mathlib.Core.List.{List}
 use Prim.Native.Nat.{ℕ, _≤_}
 use native.Mathlib.Omega.{arith}
-use lib.Dec.{eqb, leb, ltb}
-use borrow.Author.Tests.{eqb-true, eqb-false, ltb-false, ne-eqb, le-ltb}
+use lib.Dec.{eqb, leb, ltb, T, when}
+use borrow.Author.Tests.{eqb-true, eqb-false, leb-true, ltb-false, ne-eqb, le-ltb}
 use Rattle.limits.specs as limits
-use Rattle.operations.specs.{isOpen, hasRoom}
+use Rattle.operations.specs.{noneOpen, isOpen, hasRoom}
 use Rattle.replicas.specs.Chain.{isLive, liveCount, tailOf, allPermit}
+use Rattle.replicas.specs.Store.{emptyStore}
 use Rattle.replicas.specs.Replicas.{world, accepts, pending, answersDirect}
 use Rattle.switch.specs.DirtySet.{lookedUp, marked}
 use Rattle.waiting.proofs.Laws.{edited-none}
 use Rattle.waiting.specs.Waiting.{lookAt}
 use Rattle.waiting.specs.declared.Packet.{Packet}
-use Rattle.waiting.specs.declared.WaitingList.{WaitingList}
 use Rattle.protocol.specs.declared.Refusal.{Refusal}
-use Rattle.protocol.specs.declared.Refusal.the-variants.{Format, Replicas, ObjectNumber, OperationsUsedUp, OpenFull, WaitingFull, NoPacket, UnstampedRepeat, NotLive, NoLinkedWrite, SwitchNumber, LastReplica, NotOpen}
+use Rattle.protocol.specs.declared.Refusal.the-variants.{Replicas}
 use Rattle.protocol.specs.declared.Answer.{Answer}
 use Rattle.protocol.specs.declared.Answer.the-variants.{Done, Finished, Refused}
 use Rattle.protocol.specs.declared.Message.{Message}
 use Rattle.protocol.specs.declared.Message.the-variants.{UnstampedWrite, SwitchRead, StampedWrite, DirectRead, NormalRead, Completion, Reply, Unknown}
+use Rattle.protocol.specs.declared.Decision.{Decision}
 use Rattle.protocol.specs.declared.Step.{Step}
 use Rattle.protocol.specs.declared.Step.the-variants.{Start, BeginRead, BeginWrite, Deliver, Lose, Repeat, Advance, Replace, Tell, Remove, GiveUp}
 use Rattle.protocol.specs.Answers.{refusalNumber}
 use Rattle.protocol.specs.Messages.{messageOf, isUnstamped}
-use Rattle.protocol.specs.Decisions.{Given, Outcome, keeping, keepingOpens, keepingStore, noEdit, refusing, dropping, passing, overfull}
+use Rattle.protocol.specs.Decisions.{Given, Outcome, Stored, Opened, keeping, keepingOpens, keepingStore, noEdit, refusing, dropping, passing, overfull}
 use Rattle.protocol.specs.Delivery.{unstampedWrite, switchRead, stampedWrite, directRead, normalRead, completion, reply, deliveredMessage}
 use Rattle.protocol.specs.Steps.{Machine, machine, givenBy, outcomeOf, positionOf, decided, begun, delivered, lost, repeated, advancing, replaced, told, removing, givenUp, answerTo, after, startRefused, startAnswer, startStore, startOpens}
-
--- the refusals that a step gives: 1, and 3 to 13
-abbrev pub StepRefusal : Refusal → Type 0
-StepRefusal r = (refusalNumber r ≡ 1) ⊎ ((3 ≤ refusalNumber r) × (refusalNumber r ≤ 13))
 
 -- the step is a delivery
 abbrev pub IsDeliver : Step → Type 0
 IsDeliver x = (at : ℕ) × (choice : ℕ) × (x ≡ Deliver at choice)
 
--- the outcome of a step: it is done; it is a delivery and finishes an operation; or it is refused, and all is left as it was given
-data Result (g : Given) (x : Step) (u : Outcome) : Type 0 where
-  done : u .decision .answer ≡ Done → Result g x u
-  finished : (o v : ℕ) → u .decision .answer ≡ Finished o v → IsDeliver x → Result g x u
-  refused : (r : Refusal) → StepRefusal r → u ≡ keeping g (refusing (g .state) r) → Result g x u
+-- what a step can answer: done, an operation finished, or a refusal with number 1 or 3 to 13
+abbrev pub StepAnswer : Answer → Type 0
+StepAnswer a = (a ≡ Done)
+    ⊎ ((o : ℕ) × (v : ℕ) × (a ≡ Finished o v))
+    ⊎ ((r : Refusal) × (a ≡ Refused r) × ((refusalNumber r ≡ 1) ⊎ ((3 ≤ refusalNumber r) × (refusalNumber r ≤ 13))))
+
+-- the numbers of a step's refusals, as a test
+abbrev isStepNumber : ℕ → Bool
+isStepNumber n = cond (eqb n 1) true (cond (leb 3 n) (leb n 13) false)
+
+-- what holds of the outcome of a step, by its answer: only a delivery finishes an operation; a refusal has one of those numbers, and leaves all as it
+-- was given
+abbrev SoundAnswer : Given → Step → Outcome → Answer → Type 0
+SoundAnswer g x u Done = Unit {0}
+SoundAnswer g x u (Finished o v) = IsDeliver x
+SoundAnswer g x u (Refused r) = when (isStepNumber (refusalNumber r)) (u ≡ keeping g (refusing (g .state) r))
+
+abbrev Sound : Given → Step → Outcome → Type 0
+Sound g x u = SoundAnswer g x u (u .decision .answer)
+
+-- the same of a decision, and of one that says what becomes of a lent buffer
+abbrev OfDecision : Given → Step → Decision → Type 0
+OfDecision g x d = Sound g x (keeping g d)
+
+abbrev OfStored : Given → Step → Stored → Type 0
+OfStored g x u = Sound g x (keepingOpens g u)
+
+abbrev OfOpened : Given → Step → Opened → Type 0
+OfOpened g x u = Sound g x (keepingStore g u)
+
+-- what holds of both of two things holds of the one that a test chooses
+by-test : {A : Type 0} (P : A → Type 0) (b : Bool) {y z : A} → P y → P z → P (cond b y z)
+by-test P true p q = p
+by-test P false p q = q
 
 module _ (g : Given) (x : Step) where
-  -- whatever a test chooses, if each of the two is such an outcome; k says what becomes of the lent buffers
-  by-test : {A : Type 0} (k : A → Outcome) (b : Bool) {y z : A} → Result g x (k y) → Result g x (k z) → Result g x (k (cond b y z))
-  by-test k true p q = p
-  by-test k false p q = q
-
-  -- a refusal, by its number
-  no-step : (r : Refusal) → (3 ≤ refusalNumber r) × (refusalNumber r ≤ 13) → Result g x (keeping g (refusing (g .state) r))
-  no-step r n = refused r (inr n) refl
-
   -- a begin
-  begins : (isWrite : Bool) (y v : ℕ) → Result g x (keepingStore g (begun (g .state) (g .opens) (g .held) isWrite y v))
-  unfolding begun
-  begins isWrite y v =
-      by-test (keepingStore g) (leb limits.objects y) (no-step ObjectNumber (omega arith))
-      (by-test (keepingStore g) (leb limits.lastOperation (g .state .last)) (no-step OperationsUsedUp (omega arith))
-      (by-test (keepingStore g) (hasRoom (g .opens))
-      (by-test (keepingStore g) (overfull (g .held) 0 1) (no-step WaitingFull (omega arith)) (done refl))
-      (no-step OpenFull (omega arith))))
+  begin-sound : (isWrite : Bool) (y v : ℕ) → Sound g x (keepingStore g (begun (g .state) (g .opens) (g .held) isWrite y v))
+  unfolding begun refusing
+  begin-sound isWrite y v =
+      by-test (OfOpened g x) (leb limits.objects y) refl
+      (by-test (OfOpened g x) (leb limits.lastOperation (g .state .last)) refl
+      (by-test (OfOpened g x) (hasRoom (g .opens)) (by-test (OfOpened g x) (overfull (g .held) 0 1) refl tt) refl))
+
+  -- what delivery of a message does, in a step that delivers
+  deliver-sound : (at choice : ℕ) → IsDeliver x → (q : Message) → Sound g x (deliveredMessage g at choice q)
+  unfolding deliveredMessage unstampedWrite switchRead stampedWrite directRead normalRead completion reply refusing dropping passing
+  deliver-sound at choice d (UnstampedWrite o y v) =
+      by-test (OfDecision g x) (allPermit (g .state .chain) (g .state .switch .number))
+      (by-test (OfDecision g x) (marked (g .state .switch) y .ok) tt tt) tt
+  deliver-sound at choice d (SwitchRead o y) =
+      by-test (OfDecision g x) (g .state .switch .direct)
+      (by-test (OfDecision g x) (eqb (lookedUp (g .state .switch) y) 0) tt tt) tt
+  deliver-sound at choice d (StampedWrite r w) =
+      by-test (OfStored g x) (accepts (g .state .chain) r (w .stamp))
+      (by-test (OfStored g x) (eqb r (tailOf (g .state .chain)))
+      (by-test (OfStored g x) (overfull (g .held) 1 2) refl tt) tt) tt
+  deliver-sound at choice d (DirectRead r number t o y) =
+      by-test (OfDecision g x) (isLive (g .state .chain) r)
+      (by-test (OfDecision g x) (answersDirect (world (g .state .chain) (g .store)) r y number t) tt tt) tt
+  deliver-sound at choice d (NormalRead r o y) = by-test (OfDecision g x) (isLive (g .state .chain) r) tt tt
+  deliver-sound at choice d (Completion y t) = tt
+  deliver-sound at choice d (Reply o v) = by-test (OfOpened g x) (isOpen (g .opens) o) d tt
+  deliver-sound at choice d Unknown = tt
+
+-- every step, whatever packet stands at its position
+step-sound : (g : Given) (p : Packet) (x : Step) → Sound g x (decided g p x)
+unfolding decided delivered lost repeated advancing replaced told removing givenUp dropping refusing
+step-sound g p (Start n) = refl
+step-sound g p (BeginRead y) = begin-sound g (BeginRead y) false y 0
+step-sound g p (BeginWrite y v) = begin-sound g (BeginWrite y v) true y v
+step-sound g p (Deliver at choice) =
+    by-test (Sound g (Deliver at choice)) (leb (g .held) at) refl
+    (deliver-sound g (Deliver at choice) at choice (at, choice, refl) (messageOf p))
+step-sound g p (Lose at) = by-test (OfDecision g (Lose at)) (leb (g .held) at) refl tt
+step-sound g p (Repeat at) =
+    by-test (OfDecision g (Repeat at)) (leb (g .held) at) refl
+    (by-test (OfDecision g (Repeat at)) (isUnstamped p) refl
+    (by-test (OfDecision g (Repeat at)) (overfull (g .held) 0 1) refl tt))
+step-sound g p (Advance r) =
+    by-test (OfStored g (Advance r)) (isLive (g .state .chain) r)
+    (by-test (OfStored g (Advance r)) (eqb (pending (g .state .chain) r) 0) refl
+    (by-test (OfStored g (Advance r)) (eqb r (tailOf (g .state .chain)))
+    (by-test (OfStored g (Advance r)) (overfull (g .held) 0 2) refl tt) tt)) refl
+step-sound g p (Replace number) = by-test (OfDecision g (Replace number)) (leb number (g .state .switch .number)) refl tt
+step-sound g p (Tell r) = by-test (OfDecision g (Tell r)) (isLive (g .state .chain) r) tt refl
+step-sound g p (Remove r) =
+    by-test (OfDecision g (Remove r)) (isLive (g .state .chain) r)
+    (by-test (OfDecision g (Remove r)) (leb (liveCount (g .state .chain)) 1) refl tt) refl
+step-sound g p (GiveUp o) = by-test (OfOpened g (GiveUp o)) (isOpen (g .opens) o) tt refl
+
+-- what a test guards, and that it passes
+passed : {X : Type 0} (b : Bool) → when b X → (b ≡ true) × X
+passed true h = (refl, h)
+passed false h = absurd h
+
+-- the test and the numbers
+step-number : (n : ℕ) → isStepNumber n ≡ true → (n ≡ 1) ⊎ ((3 ≤ n) × (n ≤ 13))
+step-number n = go (eqb n 1) refl (leb 3 n) refl
+  where
+    go : (s : Bool) → eqb n 1 ≡ s → (t : Bool) → leb 3 n ≡ t → cond s true (cond t (leb n 13) false) ≡ true →
+        (n ≡ 1) ⊎ ((3 ≤ n) × (n ≤ 13))
+    go true e t f h = inl (eqb-true n 1 e)
+    go false e true f h = inr (leb-true 3 n f, leb-true n 13 h)
+    go false e false f h = absurd (subst T (sym h) tt)
+
+-- every step of a machine
+module _ (m : Machine) (x : Step) where
+  -- what holds of its outcome, whatever its answer
+  sound : (a : Answer) → answerTo m x ≡ a → SoundAnswer (givenBy m) x (outcomeOf m x) a
+  unfolding answerTo
+  sound a e = subst (SoundAnswer (givenBy m) x (outcomeOf m x)) e (step-sound (givenBy m) (lookAt (m .waiting) (positionOf x)) x)
+
+  -- of a refusal, its number and that nothing is changed
+  sound-refusal : (r : Refusal) → answerTo m x ≡ Refused r →
+      (isStepNumber (refusalNumber r) ≡ true) × (outcomeOf m x ≡ keeping (givenBy m) (refusing (m .state) r))
+  sound-refusal r e = passed (isStepNumber (refusalNumber r)) (sound (Refused r) e)
+
+  -- a refused step leaves the state, the store, the open operations and the waiting list as they were
+  pub refused-unchanged : (r : Refusal) → answerTo m x ≡ Refused r → after m x ≡ m
+  unfolding after refusing
+  refused-unchanged r e =
+      rw (sound-refusal r e .1) (ap (machine (m .state) (m .store) (m .opens)) (edited-none (m .waiting) noEdit refl refl))
+
+  -- no step answers anything else
+  pub answer-cases : StepAnswer (answerTo m x)
+  answer-cases = go (answerTo m x) refl
+    where
+      go : (a : Answer) → answerTo m x ≡ a → StepAnswer (answerTo m x)
+      go Done e = inl e
+      go (Finished o v) e = inr (inl (o, v, e))
+      go (Refused r) e = inr (inr (r, e, step-number (refusalNumber r) (sound-refusal r e .0)))
+
+  -- only a delivery finishes an operation
+  pub finished-by-deliver : (o v : ℕ) → answerTo m x ≡ Finished o v → IsDeliver x
+  finished-by-deliver o v e = sound (Finished o v) e
+
+-- ---- the start
+
+-- a start stands with 1 to 8 replicas, and with no other number
+pub start-accepted : (n : ℕ) → (startRefused n ≡ false) ↔ ((1 ≤ n) × (n ≤ limits.replicas))
+unfolding startRefused
+start-accepted n = (to (eqb n 0) refl, λ h. rw (ne-eqb n 0 (omega arith)) (le-ltb limits.replicas n (h .1)))
+  where
+    to : (t : Bool) → eqb n 0 ≡ t → cond t true (ltb limits.replicas n) ≡ false → (1 ≤ n) × (n ≤ limits.replicas)
+    to true z e = absurd (subst T e tt)
+    to false z e = omega (arith, eqb-false n 0 z, ltb-false limits.replicas n e)
+
+-- a refused start leaves both lent buffers as they were
+pub start-unchanged : (n : ℕ) (store opens : List ℕ) (r : Refusal) → startAnswer n .answer ≡ Refused r →
+    (startStore n store ≡ store) × (startOpens n opens ≡ opens)
+unfolding startAnswer startStore startOpens
+start-unchanged n store opens r e = go (startRefused n) e
+  where
+    go : (t : Bool) → cond t (Refused Replicas) Done ≡ Refused r → (cond t store emptyStore ≡ store) × (cond t opens noneOpen ≡ opens)
+    go true e = (refl, refl)
+    go false e = (cc, cc)

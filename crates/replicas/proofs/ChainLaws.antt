@@ -11,15 +11,16 @@ use lib.ListN.{length, getD, take, length-take, length-set, getD-replicate, List
 use lib.Seq.{getD-set-same, getD-set-other}
 use borrow.Author.Tests.{ltb-true, ltb-false, lt-ltb, eqb-true}
 use Rattle.limits.specs as limits
-use Rattle.lists.specs.{without}
+use Rattle.lists.specs.{without, indexOf}
 use Rattle.lists.proofs.Closing.{length-moves, take-moves, length-without}
 use Rattle.stamp.specs.Stamps.{largerOf}
 use Rattle.replicas.specs.declared.Chain.{Chain}
 use Rattle.replicas.specs.declared.Write.{Write}
-use Rattle.replicas.specs.Chain.{members, liveCount, indexOf, placeOf, isLive, memberAt, headOf, tailOf, chosenBy, rowOf, highestOf}
+use Rattle.replicas.specs.Chain.{members, liveCount, placeOf, isLive, memberAt, headOf, tailOf, chosenBy, rowOf, highestOf}
 use Rattle.replicas.specs.Chain.{permittedBy, appliedBy, permits, allPermit, permitting, removed, newChain}
 use Rattle.replicas.specs.Replicas.{World, accepts, applying, received, pending, oldest, advanced}
-use Rattle.replicas.proofs.Index.{index-first, index-at, in-index, at-in, all-member}
+use Rattle.lists.proofs.Index.{index-first, index-at, in-index, at-in}
+use Rattle.replicas.proofs.AllOf.{all-member}
 
 -- what holds of both ways of a test holds of its outcome
 pub by-test : {A : Type 0} (P : A → Type 0) (t : Bool) (x y : A) → (t ≡ true → P x) → (t ≡ false → P y) → P (cond t x y)

@@ -1,5 +1,5 @@
 -- The laws of the replicas for the crates above.
-pub mod Index
+pub mod AllOf
 pub mod ChainLaws
 pub mod Places
 pub mod Cells

@@ -13,7 +13,8 @@ use borrow.Author.Needs.{needs}
 use Rattle.limits.specs as limits
 use Rattle.replicas.specs.declared.Chain.{Chain}
 use Rattle.replicas.specs.Chain.{members, liveCount, placeOf, memberAt, rowOf, appliedBy, permits, allPermit}
-use Rattle.replicas.proofs.Index.{index-none, all-pass, all-fail}
+use Rattle.lists.proofs.Index.{index-none}
+use Rattle.replicas.proofs.AllOf.{all-pass, all-fail}
 use Rattle.replicas.proofs.ChainLaws.{count-is, place-found}
 use Rattle.replicas.proofs.Chain as T
 

@@ -5,7 +5,7 @@ use Prim.Native.Nat.{ℕ, zero, suc, _-_, _%_}
 use lib.ListN.{length, getD, set, take, replicate}
 use lib.Dec.{eqb, ltb}
 use Rattle.limits.specs as limits
-use Rattle.lists.specs.{moves}
+use Rattle.lists.specs.{moves, indexOf}
 use Rattle.replicas.specs.declared.Chain.{Chain}
 
 -- the live replicas in chain order, the head first
@@ -14,11 +14,6 @@ members c = take (c .live) (c .order)
 
 unfoldable pub liveCount : Chain → ℕ
 liveCount c = length (members c)
-
--- the place of a number in a list, and the list's length where it has none
-unfoldable pub indexOf : List ℕ → ℕ → ℕ
-indexOf [] r = 0
-indexOf (q ∷ l) r = cond (eqb q r) 0 (suc (indexOf l r))
 
 -- the replica's place in the chain, from 0
 unfoldable pub placeOf : Chain → ℕ → ℕ

@@ -1,0 +1,141 @@
+-- Document 01, 'Points to prove, marked P': a table with a row for each, and one theorem, that every test of every row passes.
+use mathlib.Core.Path.{_≡_, refl}
+use mathlib.Core.Bool.{Bool, true, false, cond, not}
+use mathlib.Core.List.{List, [], _∷_}
+use Prim.Native.Nat.{ℕ, _+_}
+use lib.Dec.{eqb}
+use lib.ListN.{replicate}
+use Rattle.limits.specs as limits
+use Rattle.lists.specs.{indexOf, moves}
+use Rattle.stamp.specs.Stamps.{stampOf, numberOf, counterOf, isAbove, largerOf}
+use Rattle.operations.specs.{noneOpen, hasRoom}
+use Rattle.replicas.specs.declared.Chain.{Chain}
+use Rattle.replicas.specs.Chain.{members, liveCount, placeOf, isLive, memberAt, headOf, tailOf, chosenBy, rowOf, highestOf, permittedBy, appliedBy, removed, newChain}
+use Rattle.replicas.specs.Store.{valueCell, stampCell, valueAt, stampAt, written}
+use Rattle.replicas.specs.Replicas.{linkedWrites, accepts, answersDirect}
+use Rattle.switch.specs.declared.Switch.{Switch}
+use Rattle.switch.specs.DirtySet.{slots, firstSlot, secondSlot, thirdSlot, holdsObject, countsAbove, isFree, holdsAbove, freeSlot, slotFor, markAbove, lookedUp, marking, marked, isCompleted, clearedAt, completed, newSwitch, countedTo, countedMarks}
+use Rattle.waiting.specs.declared.Packet.{Packet}
+use Rattle.waiting.specs.declared.WaitingList.{WaitingList}
+use Rattle.waiting.specs.Waiting.{held, noneWait, lookAt, takenOut, putLast, afterTaking, edited}
+use Rattle.protocol.specs.declared.Answer.{Answer}
+use Rattle.protocol.specs.declared.Answer.the-variants.{Done, Finished, Refused}
+use Rattle.protocol.specs.declared.Message.{Message}
+use Rattle.protocol.specs.declared.Message.the-variants.{UnstampedWrite, StampedWrite, NormalRead, Reply}
+use Rattle.protocol.specs.declared.Decision.{Decision}
+use Rattle.protocol.specs.declared.Step.the-variants.{BeginRead, BeginWrite, Deliver, Repeat}
+use Rattle.protocol.specs.Answers.{refusalNumber}
+use Rattle.protocol.specs.Messages.{packetOf, messageOf, isUnstamped}
+use Rattle.protocol.specs.Decisions.{refusing, passing, overfull}
+use Rattle.protocol.specs.Delivery.{directRead, stampedWrite, deliveredMessage}
+use Rattle.protocol.specs.Steps.{Machine, machine, startRefused, startState, startAnswer, begun, delivered, repeated, positionOf, decided, answerTo, after}
+
+-- a point of document 01: its number, and tests that must all pass
+pub record Point : Type 0 where
+  pub number : ℕ
+  pub tests : List Bool
+
+abbrev point : ℕ → List Bool → Point
+point number tests = record { number = number; tests = tests }
+
+pub allTrue : List Bool → Bool
+allTrue [] = true
+allTrue (b ∷ l) = cond b (allTrue l) false
+
+pub allHold : List Point → Bool
+allHold [] = true
+allHold (p ∷ l) = cond (allTrue (p .tests)) (allHold l) false
+
+-- ---- what the rows speak of
+
+-- the answer is the refusal with this number; 0 stands for a step that was done
+gives : Answer → ℕ → Bool
+gives Done n = eqb 0 n
+gives (Finished o v) n = eqb 0 n
+gives (Refused r) n = eqb (refusalNumber r) n
+
+-- a machine with a lone replica, an empty store, no operation open, and these packets waiting
+lone : WaitingList → Machine
+lone w = machine (startState 1) [] noneOpen w
+
+-- so many packets with this message
+copies : ℕ → Message → WaitingList
+copies n q = record { packets = replicate limits.waiting (packetOf q); count = n }
+
+-- the switch after these objects were marked in turn
+markedAll : Switch → List ℕ → Switch
+markedAll w [] = w
+markedAll w (o ∷ l) = markedAll (marked w o .state) l
+
+switchOfP4 : Switch
+switchOfP4 = markedAll (newSwitch 1) (16 ∷ 512 ∷ 32 ∷ 17 ∷ 33 ∷ [])
+
+-- object 5 has the mark (1,4)
+switchOfP7 : Switch
+switchOfP7 = markedAll (newSwitch 1) (5 ∷ 5 ∷ 5 ∷ 5 ∷ [])
+
+-- replica 1 has value 9 and stamp (1,4) for object 0; the store ends with that stamp's cell
+storeOfP6 : List ℕ
+storeOfP6 = written (replicate 9217 0) 1 (record { operation = 1; object = 0; value = 9; stamp = stampOf 1 4 })
+
+-- operation 7 reads object 0 at replica 1 of 2, with switch number 1 and this stamp
+readOfP6 : ℕ → Decision
+readOfP6 t = directRead (startState 2) storeOfP6 0 1 1 t 7 0
+
+-- the decision puts this message, and no other, into the waiting list
+sends : Decision → Message → Bool
+sends d q = same (d .edit .first) (packetOf q)
+  where
+    same : Packet → Packet → Bool
+    same a b =
+        allTrue
+        (eqb (d .edit .add) 1 ∷ eqb (a .kind) (b .kind) ∷ eqb (a .replica) (b .replica) ∷ eqb (a .number) (b .number) ∷
+        eqb (a .operation) (b .operation) ∷ eqb (a .object) (b .object) ∷ eqb (a .value) (b .value) ∷ eqb (a .stamp) (b .stamp) ∷ [])
+
+-- a stamped write that replica 1 accepts
+writeOfP10 : Message
+writeOfP10 = StampedWrite 1 (record { operation = 1; object = 5; value = 9; stamp = stampOf 1 1 })
+
+-- of four replicas, 3 is gone
+chainOfP11 : Chain
+chainOfP11 = removed (newChain 4) 3
+
+-- ---- the table
+
+pub points : List Point
+points =
+    -- '(1,65535) is below (2,1).'
+    point 1 (isAbove (stampOf 2 1) (stampOf 1 65535) ∷ not (isAbove (stampOf 1 65535) (stampOf 2 1)) ∷ []) ∷
+    -- 'Object 1,023 is taken; 1,024 gives 3.'
+    point 2
+    (gives (answerTo (lone noneWait) (BeginRead 1023)) 0 ∷ gives (answerTo (lone noneWait) (BeginRead 1024)) 3 ∷
+    gives (answerTo (lone noneWait) (BeginWrite 1023 9)) 0 ∷ gives (answerTo (lone noneWait) (BeginWrite 1024 9)) 3 ∷ []) ∷
+    -- 'Starts 1 and 8 stand; 0 and 9 give 2.'
+    point 3
+    (gives (startAnswer 1 .answer) 0 ∷ gives (startAnswer 8 .answer) 0 ∷
+    gives (startAnswer 0 .answer) 2 ∷ gives (startAnswer 9 .answer) 2 ∷ []) ∷
+    -- 'From no marks and with none completed, marking 16, 512, 32, 17, 33 leaves no slot for 0.'
+    point 4 (eqb (countedMarks switchOfP4) 5 ∷ eqb (slotFor switchOfP4 0) slots ∷ not (marked switchOfP4 0 .ok) ∷ []) ∷
+    -- 'After P4, object 256 takes slot 4 of the third stage.'
+    point 5 (eqb (slotFor switchOfP4 256) (32 + 4) ∷ marked switchOfP4 256 .ok ∷ []) ∷
+    -- 'Object stamp (1,4): a direct read with (1,4) is answered, with (1,3) sent to the tail.'
+    point 6 (sends (readOfP6 (stampOf 1 4)) (Reply 7 9) ∷ sends (readOfP6 (stampOf 1 3)) (NormalRead 2 7 0) ∷ []) ∷
+    -- 'Completion (1,3) leaves the same object's mark (1,4) counting.'
+    point 7 (eqb (lookedUp (completed switchOfP7 5 (stampOf 1 3)) 5) (stampOf 1 4) ∷ []) ∷
+    -- 'Completion (1,7) of object 9 stops a mark (1,4) on object 5 from counting.'
+    point 8 (eqb (lookedUp switchOfP7 5) (stampOf 1 4) ∷ eqb (countedMarks (completed switchOfP7 9 (stampOf 1 7))) 0 ∷ []) ∷
+    -- 'With 64 waiting, repeating a reply gives 6; repeating an unstamped write gives 8.'
+    point 9
+    (gives (answerTo (lone (copies 64 (Reply 1 9))) (Repeat 0)) 6 ∷
+    gives (answerTo (lone (copies 64 (UnstampedWrite 1 5 9))) (Repeat 0)) 8 ∷ []) ∷
+    -- 'Lone replica, an acceptable stamped write delivered: 64 waiting gives 6; 63 waiting leaves 64.'
+    point 10
+    (gives (answerTo (lone (copies 64 writeOfP10)) (Deliver 0 0)) 6 ∷ gives (answerTo (lone (copies 63 writeOfP10)) (Deliver 0 0)) 0 ∷
+    eqb (held (after (lone (copies 63 writeOfP10)) (Deliver 0 0) .waiting)) 64 ∷ []) ∷
+    -- 'Live 1, 2, 4 and choice 5: replica 4.'
+    point 11 (eqb (liveCount chainOfP11) 3 ∷ eqb (chosenBy chainOfP11 5) 4 ∷ []) ∷
+    []
+
+pub points-hold : allHold points ≡ true
+unfolding points allHold allTrue gives lone copies markedAll switchOfP4 switchOfP7 storeOfP6 readOfP6 sends writeOfP10 chainOfP11 stampOf numberOf counterOf isAbove largerOf noneOpen hasRoom indexOf moves members liveCount placeOf isLive memberAt headOf tailOf chosenBy rowOf highestOf permittedBy appliedBy removed newChain valueCell stampCell valueAt stampAt written linkedWrites accepts answersDirect firstSlot secondSlot thirdSlot holdsObject countsAbove isFree holdsAbove freeSlot slotFor markAbove lookedUp marking marked isCompleted clearedAt completed newSwitch countedTo countedMarks held noneWait lookAt takenOut putLast afterTaking edited packetOf messageOf isUnstamped refusing passing overfull directRead stampedWrite deliveredMessage startRefused startState startAnswer begun delivered repeated positionOf decided answerTo after
+points-hold = refl
