@@ -35,13 +35,16 @@ pub record Point : Type 0 where
   pub number : ℕ
   pub tests : List Bool
 
+-- a row of the table
 abbrev point : ℕ → List Bool → Point
 point number tests = record { number = number; tests = tests }
 
+-- every test passes
 pub allTrue : List Bool → Bool
 allTrue [] = true
 allTrue (b ∷ l) = cond b (allTrue l) false
 
+-- every test of every point passes
 pub allHold : List Point → Bool
 allHold [] = true
 allHold (p ∷ l) = cond (allTrue (p .tests)) (allHold l) false
@@ -67,6 +70,7 @@ markedAll : Switch → List ℕ → Switch
 markedAll w [] = w
 markedAll w (o ∷ l) = markedAll (marked w o .state) l
 
+-- P4's five marks, one after the other
 switchOfP4 : Switch
 switchOfP4 = markedAll (newSwitch 1) (16 ∷ 512 ∷ 32 ∷ 17 ∷ 33 ∷ [])
 
@@ -102,6 +106,7 @@ chainOfP11 = removed (newChain 4) 3
 
 -- ---- the table
 
+-- P1 to P11, each under its sentence
 pub points : List Point
 points =
     -- '(1,65535) is below (2,1).'
@@ -136,6 +141,7 @@ points =
     point 11 (eqb (liveCount chainOfP11) 3 ∷ eqb (chosenBy chainOfP11 5) 4 ∷ []) ∷
     []
 
+-- the definitions compute every row
 pub points-hold : allHold points ≡ true
 unfolding points allHold allTrue gives lone copies markedAll switchOfP4 switchOfP7 storeOfP6 readOfP6 sends writeOfP10 chainOfP11 stampOf numberOf counterOf isAbove largerOf noneOpen hasRoom indexOf moves members liveCount placeOf isLive memberAt headOf tailOf chosenBy rowOf highestOf permittedBy appliedBy removed newChain valueCell stampCell valueAt stampAt written linkedWrites accepts answersDirect firstSlot secondSlot thirdSlot holdsObject countsAbove isFree holdsAbove freeSlot slotFor markAbove lookedUp marking marked isCompleted clearedAt completed newSwitch countedTo countedMarks held noneWait lookAt takenOut putLast afterTaking edited packetOf messageOf isUnstamped refusing passing overfull directRead stampedWrite deliveredMessage startRefused startState startAnswer begun delivered repeated positionOf decided answerTo after
 points-hold = refl

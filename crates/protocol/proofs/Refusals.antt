@@ -52,10 +52,11 @@ SoundAnswer g x u Done = Unit {0}
 SoundAnswer g x u (Finished o v) = IsDeliver x
 SoundAnswer g x u (Refused r) = when (isStepNumber (refusalNumber r)) (u ≡ keeping g (refusing (g .state) r))
 
+-- an outcome of which that holds
 abbrev Sound : Given → Step → Outcome → Type 0
 Sound g x u = SoundAnswer g x u (u .decision .answer)
 
--- the same of a decision, and of one that says what becomes of a lent buffer
+-- a decision with such an outcome; so with the store that it leaves, or the open operations
 abbrev OfDecision : Given → Step → Decision → Type 0
 OfDecision g x d = Sound g x (keeping g d)
 
