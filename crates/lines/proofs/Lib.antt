@@ -1,0 +1,4 @@
+pub mod Digits
+pub mod Laws
+pub mod Numbers
+pub mod Text

@@ -1,0 +1,82 @@
+-- Laws of `decimal`: the digits spell the number, with no needless 0 before them.
+use mathlib.Core.Path.{_≡_, refl, _∙_}
+use mathlib.Core.Bool.{Bool, true, false, cond}
+use mathlib.Core.List.{List, [], _∷_, _++_}
+use Prim.Native.Nat.{ℕ, zero, suc, _+_, _-_, _*_, _/_, _%_, _^_, _≤_, _<_, min, max}
+use native.Mathlib.Nat.{pow-suc}
+use native.Mathlib.Omega.{arith}
+use lib.Dec.{ltb}
+use lib.ListN.{length, getD, length-append, List·getD-append}
+use borrow.Author.Tests.{ltb-true, ltb-false}
+use Rattle.lines.specs.Lines.{digits, places, decimal}
+
+-- the number that digits spell, v standing before them
+abbrev pub valueFrom : ℕ → List ℕ → ℕ
+valueFrom v [] = v
+valueFrom v (d ∷ ds) = valueFrom (v * 10 + (d - 48)) ds
+
+abbrev pub valueOf : List ℕ → ℕ
+valueOf ds = valueFrom 0 ds
+
+-- n has k digits; of a number of more than ten digits ten are printed
+abbrev Sized : ℕ → ℕ → Type 0
+Sized n k = (1 ≤ k) × (k ≤ 10) × (min n 9999999999 < 10 ^ k) × (10 ^ (k - 1) ≤ max n 1)
+
+by-test : (n t a b : ℕ) → (n < t → Sized n a) → (t ≤ n → Sized n b) → Sized n (cond (ltb n t) a b)
+by-test n t a b yes-case no-case = go (ltb n t) refl
+  where
+    go : (x : Bool) → ltb n t ≡ x → Sized n (cond x a b)
+    go true e = yes-case (ltb-true n t e)
+    go false e = no-case (ltb-false n t e)
+
+places-sized : (n : ℕ) → Sized n (places n)
+unfolding places
+places-sized n =
+    by-test n 10 _ _ (λ p. omega arith)
+    (λ q. by-test n 100 _ _ (λ p. omega arith)
+    (λ q. by-test n 1000 _ _ (λ p. omega arith)
+    (λ q. by-test n 10000 _ _ (λ p. omega arith)
+    (λ q. by-test n 100000 _ _ (λ p. omega arith)
+    (λ q. by-test n 1000000 _ _ (λ p. omega arith)
+    (λ q. by-test n 10000000 _ _ (λ p. omega arith)
+    (λ q. by-test n 100000000 _ _ (λ p. omega arith)
+    (λ q. by-test n 1000000000 _ _ (λ p. omega arith) (λ q. omega arith)))))))))
+
+digits-length : (k n : ℕ) → length (digits k n) ≡ k
+unfolding digits
+digits-length zero n = refl
+digits-length (suc k) n = simp (length-append, digits-length k (n / 10)) (omega arith)
+
+pub decimal-length : (n : ℕ) → length (decimal n) ≤ 10
+unfolding decimal
+decimal-length n = omega (arith, digits-length (places n) n, places-sized n)
+
+value-last : (ds : List ℕ) (v d : ℕ) → valueFrom v (ds ++ d ∷ []) ≡ valueFrom v ds * 10 + (d - 48)
+value-last [] v d = refl
+value-last (x ∷ ds) v d = value-last ds (v * 10 + (x - 48)) d
+
+digits-value : (k n : ℕ) → n < 10 ^ k → valueOf (digits k n) ≡ n
+unfolding digits
+digits-value zero n h = omega arith
+digits-value (suc k) n h =
+    value-last (digits k (n / 10)) 0 (48 + n % 10) ∙ omega (arith, digits-value k (n / 10) (omega (arith, pow-suc 10 k)))
+
+-- the digits of a number of at most ten digits spell it
+pub decimal-value : (n : ℕ) → n < 10000000000 → valueOf (decimal n) ≡ n
+unfolding decimal
+decimal-value n h = digits-value (places n) n (omega (arith, places-sized n))
+
+first-digit : (k n : ℕ) → 10 ^ k ≤ n → n < 10 ^ suc k → 48 < getD (digits (suc k) n) 0 0
+unfolding digits
+first-digit zero n h p = omega arith
+first-digit (suc k) n h p =
+    rw (List·getD-append (digits (suc k) (n / 10)) ((48 + n % 10) ∷ []) 0 0 (omega (arith, digits-length (suc k) (n / 10))))
+    (first-digit k (n / 10) (omega (arith, pow-suc 10 k)) (omega (arith, pow-suc 10 (suc k))))
+
+-- only 0 itself begins with the digit 0
+pub decimal-first : (n : ℕ) → n < 10000000000 → 0 < n → 48 < getD (decimal n) 0 0
+unfolding decimal
+decimal-first n h p =
+    let s : Sized n (places n) = places-sized n in
+    let e : places n ≡ suc (places n - 1) = omega arith in
+    rw e (first-digit (places n - 1) n (omega arith) (rw⁻¹ e (omega arith)))

@@ -1,0 +1,3 @@
+-- The lines that the run program prints.
+pub mod Lines
+pub mod Text

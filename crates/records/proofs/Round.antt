@@ -1,0 +1,192 @@
+-- Reading gives the step that was written, and writing the step read gives the record's bytes.
+use mathlib.Core.Path.{_≡_, refl, sym, ap, _∙_}
+use mathlib.Core.Bool.{Bool, true, false, cond, not}
+use mathlib.Core.List.{List, [], _++_, append-assoc}
+use Prim.Native.Nat.{ℕ, _+_, _≤_, _<_}
+use native.Mathlib.Omega.{arith}
+use lib.Dec.{leb, eqb}
+use lib.ListN.{length, take, drop, length-append, length-drop, take-append-drop}
+use lib.Seq.{slice, take-add, take-at, drop-at, length-take-le}
+use borrow.Author.Tests.{le-leb, lt-leb, ne-eqb, leb-true, not-true}
+use Rattle.protocol.specs.declared.Step.{Step}
+use Rattle.records.specs.declared.Found.{Found}
+use Rattle.records.specs.declared.Next.{Next}
+use Rattle.records.specs.Records.{byteAt, twoAt, twoBytes, kindOfTag, tagOf, contentLength, kindOf, contentOf, headerOf, recordOf, recordAt, isStart, inPlace, nextOf, nextAt, hasRoom, writtenAt, bufferAfter, nextRefusal, writtenRefusal, AllBytes, InRange}
+use Rattle.records.proofs.Parts.{byte-from, two-from, content-from, bytes-drop, bytes-take, found, Parts, parts}
+use Rattle.records.proofs.Table.{two-read, two-written, first-bytes, row, read-as, kind-read, tag-known, record-size}
+
+-- ---- written, then read
+
+-- a record is read wherever it stands
+pub read-at : (s : Step) (l r : List ℕ) (at : ℕ) → drop at l ≡ recordOf s ++ r → recordAt l at ≡ Found.Record s (at + length (recordOf s))
+unfolding recordOf headerOf twoBytes twoAt
+read-at s l r at e =
+    let t = row s in
+    let k : ℕ = kindOf s in
+    let tag : kindOfTag (byteAt l at) ≡ k = ap kindOfTag (byte-from l at ∙ ap (λ (m : List ℕ). byteAt m 0) e) ∙ tag-known k (t .0) in
+    let size : twoAt l (at + 1) ≡ contentLength k = two-from l at ∙ ap (λ (m : List ℕ). twoAt m 1) e ∙ two-read (contentLength k) in
+    let content : take (contentLength k) (drop (at + 3) l) ≡ contentOf s =
+    ap (take (contentLength k)) (content-from l at ∙ ap (drop 3) e) ∙ take-at (contentOf s) r (contentLength k) (t .1) in
+    let room : at + 3 + contentLength k ≤ length l = omega (arith, length-drop at l, ap length e, length-append (recordOf s) r, record-size s) in
+    let next : at + 3 + contentLength k ≡ at + length (recordOf s) = omega (arith, record-size s) in
+    found l at k tag (t .0) size room ∙ rw (content, t .2, next)
+
+-- 'Reading a written record gives the step that was written', whatever stands before and after it; no range is asked of the step's numbers
+pub read-written : (s : Step) (buf : List ℕ) (at : ℕ) → hasRoom buf at s ≡ true
+    → recordAt (bufferAfter buf at s) at ≡ Found.Record s (at + length (recordOf s))
+unfolding bufferAfter hasRoom
+read-written s buf at room =
+    let fits : at + length (recordOf s) ≤ length buf = leb-true _ _ room in
+    let rest : List ℕ = drop (at + length (recordOf s)) buf in
+    rw room
+    (read-at s (take at buf ++ recordOf s ++ rest) rest at
+    (ap (drop at) (append-assoc (take at buf) (recordOf s) rest) ∙ drop-at (take at buf) (recordOf s ++ rest) at (length-take-le at buf (omega arith))))
+
+-- ---- read, then written
+
+slice-take : (l : List ℕ) (at n : ℕ) → at ≤ length l → slice at (at + n) l ≡ take n (drop at l)
+slice-take l at n h = ap (drop at) (take-add at n l) ∙ drop-at (take at l) (take n (drop at l)) at (length-take-le at l h)
+
+-- the first three bytes are the header of the kind that was read
+header-read : (l : List ℕ) (at k n : ℕ) (s : Step) → AllBytes l → Parts l at k n s → headerOf k ≡ take 3 (drop at l)
+unfolding headerOf twoAt
+header-read l at k n s b p =
+    let m : List ℕ = drop at l in
+    let room : at + 3 + contentLength k ≤ length l = p .room in
+    let tag : tagOf k ≡ byteAt m 0 = sym (p .tag) ∙ byte-from l at in
+    let size : contentLength k ≡ twoAt m 1 = sym (p .size) ∙ two-from l at in
+    let two = two-written (byteAt m 1) (byteAt m 2) (bytes-drop l at b 1) (bytes-drop l at b 2) in
+    rw (tag, size, two .0) (first-bytes m 3 (omega (arith, length-drop at l)))
+
+-- the step that was read has the kind and the content that stand there, and its numbers fit
+step-read : (l : List ℕ) (at k n : ℕ) (s : Step) → AllBytes l → Parts l at k n s
+    → (kindOf s ≡ k) × (contentOf s ≡ take (contentLength k) (drop (at + 3) l)) × InRange s
+step-read l at k n s b p =
+    let c : List ℕ = take (contentLength k) (drop (at + 3) l) in
+    let room : at + 3 + contentLength k ≤ length l = p .room in
+    let sized : length c ≡ contentLength k = length-take-le (contentLength k) (drop (at + 3) l) (omega (arith, length-drop (at + 3) l)) in
+    let r = read-as k (p .below) c sized (bytes-take (drop (at + 3) l) (contentLength k) (bytes-drop l (at + 3) b)) in
+    rw (← p .step) (kind-read k (p .below) c, r .0, r .1)
+
+-- 'writing the step read gives the record's bytes'
+pub written-read : (l : List ℕ) (at n : ℕ) (s : Step) → AllBytes l → recordAt l at ≡ Found.Record s n → recordOf s ≡ slice at n l
+unfolding recordOf
+written-read l at n s b e =
+    let k : ℕ = kindOfTag (byteAt l at) in
+    let w : ℕ = contentLength k in
+    let p = parts l at n s e in
+    let r = step-read l at k n s b p in
+    let room : at + 3 + w ≤ length l = p .room in
+    let end : n ≡ at + (3 + w) = omega (arith, p .next) in
+    rw (r .0, r .1, header-read l at k n s b p, content-from l at, ← take-add 3 w (drop at l), end, slice-take l at (3 + w) (omega arith))
+
+-- a step that is read has numbers that fit
+pub in-range : (l : List ℕ) (at n : ℕ) (s : Step) → AllBytes l → recordAt l at ≡ Found.Record s n → InRange s
+in-range l at n s b e = step-read l at _ n s b (parts l at n s e) .2
+
+-- the next position is past the record, and within the input
+pub next-position : (l : List ℕ) (at n : ℕ) (s : Step) → recordAt l at ≡ Found.Record s n → (n ≡ at + length (recordOf s)) × (at < n) × (n ≤ length l)
+next-position l at n s e =
+    let k : ℕ = kindOfTag (byteAt l at) in
+    let p = parts l at n s e in
+    let next : at + 3 + contentLength k ≡ n = p .next in
+    let room : at + 3 + contentLength k ≤ length l = p .room in
+    let kind : kindOf s ≡ k = rw (← p .step) (kind-read k (p .below) (take (contentLength k) (drop (at + 3) l))) in
+    let size : length (recordOf s) ≡ 3 + contentLength k = record-size s ∙ ap (λ (i : ℕ). 3 + contentLength i) kind in
+    (omega arith, omega arith, omega arith)
+
+-- so the step read, written where it was read, leaves the input as it was
+pub rewritten : (l : List ℕ) (at n : ℕ) (s : Step) → AllBytes l → recordAt l at ≡ Found.Record s n → bufferAfter l at s ≡ l
+unfolding bufferAfter hasRoom
+rewritten l at n s b e =
+    let p = next-position l at n s e in
+    let end : at + length (recordOf s) ≡ n = sym (p .0) in
+    let bytes : recordOf s ≡ take (length (recordOf s)) (drop at l) =
+    written-read l at n s b e ∙ ap (λ (i : ℕ). slice at i l) (p .0) ∙ slice-take l at (length (recordOf s)) (omega arith) in
+    rw (le-leb (at + length (recordOf s)) (length l) (omega arith))
+    (ap (λ (r : List ℕ). take at l ++ r ++ drop (at + length (recordOf s)) l) bytes ∙
+    rw (← take-add at (length (recordOf s)) l) (take-append-drop (at + length (recordOf s)) l))
+
+-- ---- what a run reads
+
+-- inside the input, a run reads the record that is found, if it is in place
+next-inside : (l : List ℕ) (at : ℕ) → at < length l → nextAt l at ≡ nextOf (eqb at 0) (recordAt l at)
+unfolding nextAt
+next-inside l at h = go (eqb at 0) refl
+  where
+    go : (t : Bool) → eqb at 0 ≡ t → nextAt l at ≡ nextOf (eqb at 0) (recordAt l at)
+    go true e = simp e
+    go false e = simp (e, lt-leb (length l) at h)
+
+in-place : (first : Bool) (s : Step) → isStart s ≡ first → inPlace first s ≡ true
+unfolding inPlace
+in-place true s e = e
+in-place false s e = rw e
+
+out-of-place : (first : Bool) (s : Step) → isStart s ≡ not first → inPlace first s ≡ false
+unfolding inPlace
+out-of-place true s e = e
+out-of-place false s e = rw e
+
+-- 'The first is a start; no other is': a record is read where it is a start in first place or another step in a later one ..
+pub next-found : (l : List ℕ) (at n : ℕ) (s : Step) → recordAt l at ≡ Found.Record s n → isStart s ≡ eqb at 0 → nextAt l at ≡ Next.Record s n
+next-found l at n s e h =
+    let p = next-position l at n s e in
+    next-inside l at (omega arith) ∙ rw (e, in-place (eqb at 0) s h)
+
+-- .. and nowhere else: a missing or second start is malformed, whatever its n
+pub next-misplaced : (l : List ℕ) (at n : ℕ) (s : Step) → recordAt l at ≡ Found.Record s n → isStart s ≡ not (eqb at 0) → nextAt l at ≡ Next.Malformed
+next-misplaced l at n s e h =
+    let p = next-position l at n s e in
+    next-inside l at (omega arith) ∙ rw (e, out-of-place (eqb at 0) s h)
+
+place-of : (first : Bool) (s : Step) → inPlace first s ≡ true → isStart s ≡ first
+unfolding inPlace
+place-of true s e = e
+place-of false s e = not-true (isStart s) e
+
+read-in-place : (first : Bool) (f : Found) (s : Step) (n : ℕ) → nextOf first f ≡ Next.Record s n → (f ≡ Found.Record s n) × (isStart s ≡ first)
+read-in-place first Found.Malformed s n e = let z : _≡_ {A = ℕ} 0 1 = cc in absurd (omega arith)
+read-in-place first (Found.Record t m) s n e = go (inPlace first t) refl e
+  where
+    go : (b : Bool) → inPlace first t ≡ b → cond b (Next.Record t m) Next.Malformed ≡ Next.Record s n
+        → (Found.Record t m ≡ Found.Record s n) × (isStart s ≡ first)
+    go true p q = let same : t ≡ s = cc in (cc, ap isStart (sym same) ∙ place-of first t p)
+    go false p q = let z : _≡_ {A = ℕ} 0 1 = cc in absurd (omega arith)
+
+-- so whatever a run reads is the record found there, and in place
+pub next-record : (l : List ℕ) (at n : ℕ) (s : Step) → nextAt l at ≡ Next.Record s n → (recordAt l at ≡ Found.Record s n) × (isStart s ≡ eqb at 0)
+unfolding nextAt
+next-record l at n s e = go (eqb at 0) (leb (length l) at) refl e
+  where
+    f : Found
+    f = recordAt l at
+
+    go : (a b : Bool) → eqb at 0 ≡ a → cond a (nextOf true f) (cond b Next.End (nextOf false f)) ≡ Next.Record s n
+        → (f ≡ Found.Record s n) × (isStart s ≡ eqb at 0)
+    go true b p q = rw p (read-in-place true f s n q)
+    go false true p q = let z : _≡_ {A = ℕ} 0 1 = cc in absurd (omega arith)
+    go false false p q = rw p (read-in-place false f s n q)
+
+-- the end is read at the end of the input and past it, but not in first place
+pub next-end : (l : List ℕ) (at : ℕ) → 0 < at → length l ≤ at → nextAt l at ≡ Next.End
+unfolding nextAt
+next-end l at h g = simp (ne-eqb at 0 (λ e. omega arith), le-leb (length l) at g)
+
+-- a malformed record is read as one, and the start of an empty input is missing
+pub next-malformed : (l : List ℕ) (at : ℕ) → at < length l → recordAt l at ≡ Found.Malformed → nextAt l at ≡ Next.Malformed
+next-malformed l at h e = next-inside l at h ∙ rw e
+
+pub next-empty : nextAt [] 0 ≡ Next.Malformed
+unfolding nextAt recordAt
+next-empty = refl
+
+-- ---- 'Turned down'
+
+pub malformed-is-1 : (l : List ℕ) (at : ℕ) → nextAt l at ≡ Next.Malformed → nextRefusal (nextAt l at) ≡ 1
+malformed-is-1 l at e = rw e
+
+pub too-short-is-15 : (buf : List ℕ) (at : ℕ) (s : Step) → length buf < at + length (recordOf s)
+    → (writtenRefusal (writtenAt buf at s) ≡ 15) × (bufferAfter buf at s ≡ buf)
+unfolding writtenAt bufferAfter hasRoom
+too-short-is-15 buf at s h = let none = lt-leb (at + length (recordOf s)) (length buf) h in (rw none, rw none)

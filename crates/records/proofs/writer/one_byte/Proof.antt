@@ -1,0 +1,12 @@
+use Rattle.records.specs.Records.{headerOf, twoBytes}
+use borrow.Author.Needs.{needs}
+use Rattle.records.proofs.writer.one_byte.Statement.{statement}
+use Rattle.records.proofs.writer.one_byte.Tie as tie
+
+returns : tie.Need-returns
+unfolding headerOf twoBytes
+returns c = simp (c .before .before .before .content-length .ensures, c .before .before .tag-of .ensures, c .before .high .ensures, c .low .ensures)
+
+pub one-byte-spec : {M : Type 1} → statement M
+one-byte-spec =
+    tie.close (tie.spec (λ c κs. search needs) (λ c κs. search needs) (λ c κs. search needs) (λ c κs. search needs) returns)

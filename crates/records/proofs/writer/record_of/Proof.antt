@@ -1,0 +1,44 @@
+use Rattle.records.specs.Records.{headerOf, recordOf, twoBytes, fourBytes}
+use borrow.Author.Needs.{needs}
+use Rattle.records.proofs.writer.record_of.Statement.{statement}
+use Rattle.records.proofs.writer.record_of.Tie as tie
+
+pub record-of-spec : {M : Type 1} → statement M
+unfolding recordOf headerOf twoBytes fourBytes
+record-of-spec =
+    tie.close
+    (tie.spec
+    (λ c κs. search needs)
+    (λ c. search needs)
+    (λ c κs. search needs)
+    (λ c. search needs)
+    (λ c κs. search needs)
+    (λ c. search needs)
+    (λ c κs. search needs)
+    (λ c. search needs)
+    (λ c κs. search needs)
+    (λ c. search needs)
+    (λ c κs. search needs)
+    (λ c. search needs)
+    (λ c κs. search needs)
+    (λ c. search needs)
+    (λ c κs. search needs)
+    (λ c. search needs)
+    (λ c κs. search needs)
+    (λ c. search needs)
+    (λ c κs. search needs)
+    (λ c. search needs)
+    (λ c κs. search needs)
+    (λ c. search needs)
+    (λ c κs. search needs)
+    (λ c. simp (c .before .before .step .given .1, c .one-byte .ensures, c .before .before .before .before .kind-of .ensures))
+    (λ c. simp (c .before .before .step2 .given .1, c .two-bytes .ensures, c .before .before .before .before .kind-of .ensures))
+    (λ c. simp (c .before .before .step3 .given .1, c .two-and-four .ensures, c .before .before .before .before .kind-of .ensures))
+    (λ c. simp (c .before .before .step4 .given .1, c .two-and-one .ensures, c .before .before .before .before .kind-of .ensures))
+    (λ c. simp (c .before .before .step5 .given .1, c .two-bytes2 .ensures, c .before .before .before .before .kind-of .ensures))
+    (λ c. simp (c .before .before .step6 .given .1, c .two-bytes3 .ensures, c .before .before .before .before .kind-of .ensures))
+    (λ c. simp (c .before .before .step7 .given .1, c .one-byte2 .ensures, c .before .before .before .before .kind-of .ensures))
+    (λ c. simp (c .before .before .step8 .given .1, c .two-bytes4 .ensures, c .before .before .before .before .kind-of .ensures))
+    (λ c. simp (c .before .before .step9 .given .1, c .one-byte3 .ensures, c .before .before .before .before .kind-of .ensures))
+    (λ c. simp (c .before .before .step10 .given .1, c .one-byte4 .ensures, c .before .before .before .before .kind-of .ensures))
+    (λ c. simp (c .before .before .step11 .given .1, c .two-bytes5 .ensures, c .before .before .before .before .kind-of .ensures)))

@@ -1,0 +1,186 @@
+-- The records of document 01, 'Steps and their records': a step as a list of bytes, what is read at a position, and what a writer leaves in its buffer.
+use mathlib.Core.Bool.{Bool, true, false, cond, not}
+use mathlib.Core.List.{List, [], _∷_, _++_}
+use Prim.Native.Nat.{ℕ, _+_, _*_, _/_, _%_, _<_}
+use lib.Dec.{leb, eqb}
+use lib.ListN.{length, getD, take, drop}
+use Rattle.protocol.specs.Answers.{refusalNumber}
+use Rattle.protocol.specs.declared.Refusal.{Refusal}
+use Rattle.protocol.specs.declared.Step.{Step}
+use Rattle.protocol.specs.declared.Step.the-variants.{Start, BeginRead, BeginWrite, Deliver, Lose, Repeat, Advance, Replace, Tell, Remove, GiveUp}
+use Rattle.records.specs.declared.Found.{Found}
+use Rattle.records.specs.declared.Next.{Next}
+use Rattle.records.specs.declared.Written.{Written}
+
+-- ---- numbers: 'bytes of a number go highest first'
+
+-- a number of two bytes, and one of four
+unfoldable pub twoBytes : ℕ → List ℕ
+twoBytes a = a / 256 ∷ a % 256 ∷ []
+
+unfoldable pub fourBytes : ℕ → List ℕ
+fourBytes a = twoBytes (a / 65536) ++ twoBytes (a % 65536)
+
+-- the byte at a position, 0 past the end
+abbrev pub byteAt : List ℕ → ℕ → ℕ
+byteAt l i = getD l i 0
+
+-- the number of two bytes at a position, and of four
+unfoldable pub twoAt : List ℕ → ℕ → ℕ
+twoAt l i = byteAt l i * 256 + byteAt l (i + 1)
+
+unfoldable pub fourAt : List ℕ → ℕ → ℕ
+fourAt l i = twoAt l i * 65536 + twoAt l (i + 2)
+
+-- ---- the kinds of step: 0 is the start, and 1 to 10 have their tags' numbers
+
+-- stands for no step
+abbrev pub noStep : ℕ
+noStep = 11
+
+-- the column 'Tag', read: a tag that is not in it is unknown
+unfoldable pub kindOfTag : ℕ → ℕ
+kindOfTag t = cond (eqb t 32) 0 (cond (leb 1 t) (cond (leb t 10) t noStep) noStep)
+
+-- the column 'Tag', written
+unfoldable pub tagOf : ℕ → ℕ
+tagOf k = cond (leb 1 k) (cond (leb k 10) k 32) 32
+
+-- the column 'Length'
+abbrev pub lengths : List ℕ
+lengths = 1 ∷ 2 ∷ 6 ∷ 3 ∷ 2 ∷ 2 ∷ 1 ∷ 2 ∷ 1 ∷ 1 ∷ 2 ∷ []
+
+unfoldable pub contentLength : ℕ → ℕ
+contentLength k = getD lengths k 0
+
+-- the kind of each step
+abbrev pub kindOf : Step → ℕ
+kindOf (Start n) = 0
+kindOf (BeginRead object) = 1
+kindOf (BeginWrite object value) = 2
+kindOf (Deliver position choice) = 3
+kindOf (Lose position) = 4
+kindOf (Repeat position) = 5
+kindOf (Advance replica) = 6
+kindOf (Replace number) = 7
+kindOf (Tell replica) = 8
+kindOf (Remove replica) = 9
+kindOf (GiveUp operation) = 10
+
+-- ---- a step as bytes
+
+-- the column 'Content and effect': what stands in the content
+abbrev pub contentOf : Step → List ℕ
+contentOf (Start n) = n ∷ []
+contentOf (BeginRead object) = twoBytes object
+contentOf (BeginWrite object value) = twoBytes object ++ fourBytes value
+contentOf (Deliver position choice) = twoBytes position ++ choice ∷ []
+contentOf (Lose position) = twoBytes position
+contentOf (Repeat position) = twoBytes position
+contentOf (Advance replica) = replica ∷ []
+contentOf (Replace number) = twoBytes number
+contentOf (Tell replica) = replica ∷ []
+contentOf (Remove replica) = replica ∷ []
+contentOf (GiveUp operation) = twoBytes operation
+
+-- 'a one-byte tag, a two-byte length'
+unfoldable pub headerOf : ℕ → List ℕ
+headerOf k = tagOf k ∷ twoBytes (contentLength k)
+
+-- 'A record is a one-byte tag, a two-byte length, the content.'
+unfoldable pub recordOf : Step → List ℕ
+recordOf s = headerOf (kindOf s) ++ contentOf s
+
+-- ---- bytes as a step
+
+-- the step of a kind, its content being read as it is written
+unfoldable pub stepOf : ℕ → List ℕ → Step
+stepOf k c =
+    cond (eqb k 0) (Start (byteAt c 0))
+    (cond (eqb k 1) (BeginRead (twoAt c 0))
+    (cond (eqb k 2) (BeginWrite (twoAt c 0) (fourAt c 2))
+    (cond (eqb k 3) (Deliver (twoAt c 0) (byteAt c 2))
+    (cond (eqb k 4) (Lose (twoAt c 0))
+    (cond (eqb k 5) (Repeat (twoAt c 0))
+    (cond (eqb k 6) (Advance (byteAt c 0))
+    (cond (eqb k 7) (Replace (twoAt c 0))
+    (cond (eqb k 8) (Tell (byteAt c 0))
+    (cond (eqb k 9) (Remove (byteAt c 0)) (GiveUp (twoAt c 0)))))))))))
+
+-- the record of a kind whose tag is at the position; refusal 1: 'wrong length, input ends early'
+unfoldable pub recordOfKind : ℕ → List ℕ → ℕ → Found
+recordOfKind k l at =
+    cond (eqb (twoAt l (at + 1)) (contentLength k))
+    (cond (leb (at + 3 + contentLength k) (length l))
+    (Found.Record (stepOf k (take (contentLength k) (drop (at + 3) l))) (at + 3 + contentLength k))
+    Found.Malformed)
+    Found.Malformed
+
+-- the record at a position; refusal 1: 'input ends early' before the content, 'unknown tag'
+unfoldable pub recordAt : List ℕ → ℕ → Found
+recordAt l at =
+    cond (leb (at + 3) (length l))
+    (cond (eqb (kindOfTag (byteAt l at)) noStep) Found.Malformed (recordOfKind (kindOfTag (byteAt l at)) l at))
+    Found.Malformed
+
+-- the step is a start
+unfoldable pub isStart : Step → Bool
+isStart s = eqb (kindOf s) 0
+
+-- 'The first is a start; no other is.'
+unfoldable pub inPlace : Bool → Step → Bool
+inPlace first s = cond first (isStart s) (not (isStart s))
+
+-- refusal 1: 'start missing or second', whatever its n
+abbrev pub nextOf : Bool → Found → Next
+nextOf first (Found.Record s n) = cond (inPlace first s) (Next.Record s n) Next.Malformed
+nextOf first Found.Malformed = Next.Malformed
+
+-- what a run reads at a position; in first place it reads no end, so the start of an empty input is missing
+unfoldable pub nextAt : List ℕ → ℕ → Next
+nextAt l at = cond (eqb at 0) (nextOf true (recordAt l at)) (cond (leb (length l) at) Next.End (nextOf false (recordAt l at)))
+
+-- ---- the writer
+
+-- the record has room in the buffer at the position
+unfoldable pub hasRoom : List ℕ → ℕ → Step → Bool
+hasRoom buf at s = leb (at + length (recordOf s)) (length buf)
+
+-- refusal 15: 'lent buffer shorter than the record to write'
+unfoldable pub writtenAt : List ℕ → ℕ → Step → Written
+writtenAt buf at s = cond (hasRoom buf at s) (Written.Bytes (length (recordOf s))) Written.TooShort
+
+-- 'A writer changes no byte of its buffer beyond the record', and none at all where it is turned down
+unfoldable pub bufferAfter : List ℕ → ℕ → Step → List ℕ
+bufferAfter buf at s = cond (hasRoom buf at s) (take at buf ++ recordOf s ++ drop (at + length (recordOf s)) buf) buf
+
+-- ---- 'Turned down': the number of the refusal that an answer is, 0 for none
+
+abbrev pub nextRefusal : Next → ℕ
+nextRefusal (Next.Record s n) = 0
+nextRefusal Next.End = 0
+nextRefusal Next.Malformed = refusalNumber Refusal.Format
+
+abbrev pub writtenRefusal : Written → ℕ
+writtenRefusal (Written.Bytes n) = 0
+writtenRefusal Written.TooShort = refusalNumber Refusal.BufferTooShort
+
+-- ---- numbers that fit their types
+
+-- every element is a byte
+abbrev pub AllBytes : List ℕ → Type 0
+AllBytes l = (i : ℕ) → byteAt l i < 256
+
+-- the step's numbers fit the widths that the records give them
+abbrev pub InRange : Step → Type 0
+InRange (Start n) = n < 256
+InRange (BeginRead object) = object < 65536
+InRange (BeginWrite object value) = (object < 65536) × (value < 4294967296)
+InRange (Deliver position choice) = (position < 65536) × (choice < 256)
+InRange (Lose position) = position < 65536
+InRange (Repeat position) = position < 65536
+InRange (Advance replica) = replica < 256
+InRange (Replace number) = number < 65536
+InRange (Tell replica) = replica < 256
+InRange (Remove replica) = replica < 256
+InRange (GiveUp operation) = operation < 65536

@@ -1,0 +1,44 @@
+// The records of document 01, 'Steps and their records': steps read from bytes, and written as bytes.
+ghost use mathlib.Core.Path.{_≡_};
+ghost use Prim.Native.Nat.{_+_};
+ghost use lib.Dec.{leb};
+
+mod kinds;
+mod reader;
+mod writer;
+
+use protocol::Step;
+pub use reader::next_at;
+pub use reader::record_at;
+pub use writer::record_length;
+pub use writer::write_at;
+
+// What stands at a position: a record, as its step and the position past it, or none that is well formed (refusal 1).
+pub enum Found {
+    Record(Step, usize),
+    Malformed,
+}
+
+// What a run reads at a position: a record, the end of the input, or refusal 1.
+pub enum Next {
+    Record(Step, usize),
+    End,
+    Malformed,
+}
+
+// What a writer answers: how many bytes it wrote, or that the buffer is shorter than the record (refusal 15).
+pub enum Written {
+    Bytes(usize),
+    TooShort,
+}
+
+// Whether so many bytes from a position on lie within the size. No sum can wrap.
+fn within(size: usize, at: usize, count: usize) -> bool
+    ensures { λ r. ⌜ r ≡ leb (at + count) size ⌝ }
+{
+    if at <= size {
+        count <= size - at
+    } else {
+        false
+    }
+}
