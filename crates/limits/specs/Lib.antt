@@ -21,6 +21,10 @@ opened = 64
 abbrev pub linked : ℕ
 linked = 64
 
+-- 'input above 65,536 bytes' is refused
+abbrev pub input : ℕ
+input = 65536
+
 -- operations are numbered 1 to 65,535
 abbrev pub lastOperation : ℕ
 lastOperation = 65535

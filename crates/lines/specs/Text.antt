@@ -26,3 +26,7 @@ written b at t = cond (leb (at + length t) (length b)) (Bytes (length t)) TooSho
 -- the buffer then: the bytes t at the place, or unchanged where it is too short
 unfoldable pub putIn : List ℕ → ℕ → List ℕ → List ℕ
 putIn b at t = cond (leb (at + length t) (length b)) (paste b at t (length t)) b
+
+-- the place after the bytes t: the same place where the buffer is too short
+unfoldable pub placeAfter : List ℕ → ℕ → List ℕ → ℕ
+placeAfter b at t = cond (leb (at + length t) (length b)) (at + length t) at

@@ -6,7 +6,7 @@ ghost use lib.ListN.{length};
 ghost use lib.Seq.{paste};
 ghost use Rattle.protocol.specs.Answers.{refusalNumber};
 ghost use Rattle.lines.specs.Lines.{places, decimal, okStart, noLine, lineOf};
-ghost use Rattle.lines.specs.Text.{text, Adds, written, putIn};
+ghost use Rattle.lines.specs.Text.{text, Adds, written, putIn, placeAfter};
 use protocol::Answer;
 use protocol::Refusal;
 
@@ -34,7 +34,8 @@ fn copy_in(buf: &mut [u8], at: usize, from: &[u8])
     }
 }
 
-fn empty() -> Line
+// A line of no bytes.
+pub fn empty() -> Line
     ensures { λ r. ⌜ (text r ≡ []) × (r .len ≡ 0) ⌝ }
 {
     Line {
@@ -108,7 +109,7 @@ fn with_number(line: Line, n: usize) -> Line
 }
 
 // The number that document 01 gives a refusal.
-fn refusal_number(r: Refusal) -> u8
+pub fn refusal_number(r: Refusal) -> u8
     ensures { λ x. ⌜ x ≡ refusalNumber r ⌝ }
 {
     match r {
@@ -193,4 +194,14 @@ pub fn put(line: Line, buf: &mut [u8], at: usize) -> Written
     let bytes = line.bytes;
     copy_in(buf, at, &bytes[..n]);
     Written::Bytes(n)
+}
+
+// The line goes into the buffer at a place, as `put` puts it. The place after it.
+pub fn append(line: Line, buf: &mut [u8], at: usize) -> usize
+    ensures { λ r. ⌜ (r ≡ placeAfter (now (buf .entry)) at (text line)) × (now (buf .exit) ≡ putIn (now (buf .entry)) at (text line)) ⌝ }
+{
+    match put(line, &mut *buf, at) {
+        Written::Bytes(n) => at + n,
+        Written::TooShort => at,
+    }
 }

@@ -161,3 +161,10 @@ short k h = leb-true _ _ (tested 11 (λ k. leb (contentLength k) 6) refl k h)
 
 pub record-short : (s : Step) → length (recordOf s) ≤ 9
 record-short s = omega (arith, record-size s, short (kindOf s) (row s .0))
+
+long : (k : ℕ) → k < 11 → 1 ≤ contentLength k
+unfolding contentLength
+long k h = leb-true _ _ (tested 11 (λ k. leb 1 (contentLength k)) refl k h)
+
+pub record-long : (s : Step) → 4 ≤ length (recordOf s)
+record-long s = omega (arith, record-size s, long (kindOf s) (row s .0))

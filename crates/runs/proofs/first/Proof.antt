@@ -1,0 +1,43 @@
+use borrow.Author.Tests.{lt-ltb, le-ltb}
+use Rattle.runs.specs.Runs.{firstPrinted}
+use borrow.Author.Needs.{needs}
+use Rattle.runs.proofs.first.Statement.{statement}
+use Rattle.runs.proofs.first.Tie as tie
+
+returns : tie.Need-returns
+unfolding firstPrinted
+returns c = rw (lt-ltb _ _ (c .before .before .before .before .before .if1 .taken), ← c .before .before .before .before .refusal-number .ensures, ← c .before .of-refusal .ensures) (c .stop .ensures)
+
+returns-2 : tie.Need-returns-2
+unfolding firstPrinted
+returns-2 c = rw (le-ltb _ _ (c .before .before .before .before .before .before .before .before .if1 .left), ← c .before .before .before .before .before .before .before .next-at .ensures, c .before .before .before .before .before .x .given .1, ← c .before .before .before .replicas-of .ensures) (c .start-with .ensures)
+
+returns-3 : tie.Need-returns-3
+unfolding firstPrinted
+returns-3 c = rw (le-ltb _ _ (c .before .before .before .before .before .before .before .if1 .left), ← c .before .before .before .before .before .before .next-at .ensures, c .before .before .before .before .enum-told .given .1, ← c .before .malformed .ensures) (c .stop2 .ensures)
+
+returns-4 : tie.Need-returns-4
+unfolding firstPrinted
+returns-4 c = rw (le-ltb _ _ (c .before .before .before .before .before .before .before .if1 .left), ← c .before .before .before .before .before .before .next-at .ensures, c .before .before .before .before .enum-told2 .given .1, ← c .before .malformed2 .ensures) (c .stop3 .ensures)
+
+pub first-spec : {M : Type 1} → statement M
+first-spec =
+    tie.close
+    (tie.spec
+    (λ c κs. search needs)
+    (λ c κs. search needs)
+    (λ c κs. search needs)
+    returns
+    (λ c κs. search needs)
+    (λ c. search needs)
+    (λ c κs. search needs)
+    (λ c κs. search needs)
+    (λ c. search needs)
+    (λ c κs. search needs)
+    (λ c κs. search needs)
+    (λ c. search needs)
+    (λ c κs. search needs)
+    (λ c κs. search needs)
+    returns-2
+    returns-3
+    returns-4)

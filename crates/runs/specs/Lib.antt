@@ -1,0 +1,2 @@
+-- Runs: everything that the run program prints.
+pub mod Runs

@@ -1,0 +1,281 @@
+//! Compares another run program with this model on random files, and looks for
+//! an order on small runs.
+
+use crate::generate::{generate, length, Random, KINDS};
+use crate::model::Refusal;
+use crate::order::{find_order, history};
+use crate::records::pieces;
+use crate::run::{output, walk};
+use crate::words::describe;
+use std::fs::{self, File};
+use std::io;
+use std::path::{Path, PathBuf};
+use std::process::{Command, Stdio};
+
+/// What a comparison is asked to do.
+#[derive(Clone, Debug)]
+pub struct Task {
+    pub program: PathBuf,
+    pub files: usize,
+    pub small: usize,
+    pub seed: u64,
+    pub keep: PathBuf,
+}
+
+/// How often each answer occurred, and how much was compared.
+#[derive(Clone, Debug, Default)]
+pub struct Tally {
+    pub files: usize,
+    pub bytes: usize,
+    pub records: usize,
+    pub accepted: usize,
+    pub finished: usize,
+    pub refusals: [usize; 16],
+    pub orders: usize,
+    pub ordered_operations: usize,
+}
+
+impl Tally {
+    /// Counts a compared file.
+    pub fn count(&mut self, input: &[u8]) {
+        self.files += 1;
+        self.bytes += input.len();
+        walk(input, |_, outcome| {
+            self.records += 1;
+            match outcome {
+                Ok(accepted) => {
+                    self.accepted += 1;
+                    self.finished += usize::from(accepted.finished.is_some());
+                }
+                Err(refusal) => self.refusals[usize::from(refusal.number())] += 1,
+            }
+        });
+    }
+
+    /// Adds another tally to this one.
+    pub fn add(&mut self, other: &Tally) {
+        self.files += other.files;
+        self.bytes += other.bytes;
+        self.records += other.records;
+        self.accepted += other.accepted;
+        self.finished += other.finished;
+        self.orders += other.orders;
+        self.ordered_operations += other.ordered_operations;
+        for (ours, theirs) in self.refusals.iter_mut().zip(other.refusals) {
+            *ours += theirs;
+        }
+    }
+
+    /// The last line and the table of answers.
+    pub fn report(&self) -> String {
+        let mut text = String::from("answer       times\n");
+        let mut row = |name: &str, times| {
+            text += &format!("{name:<9} {:>13}\n", with_commas(times));
+        };
+        row("ok", self.accepted);
+        row("finished", self.finished);
+        for (number, &times) in self.refusals.iter().enumerate().skip(1) {
+            row(&format!("no {number}"), times);
+        }
+        text + &format!(
+            "compared {} files, {} bytes, {} records (accepted {}), 0 differences; \
+             orders found for {} small runs ({} finished operations)\n",
+            self.files,
+            with_commas(self.bytes),
+            with_commas(self.records),
+            with_commas(self.accepted),
+            self.orders,
+            with_commas(self.ordered_operations)
+        )
+    }
+}
+
+/// A number with a comma before each group of three digits.
+pub fn with_commas(number: usize) -> String {
+    let digits = number.to_string();
+    let mut text = String::new();
+    for (index, digit) in digits.chars().enumerate() {
+        if index > 0 && (digits.len() - index).is_multiple_of(3) {
+            text.push(',');
+        }
+        text.push(digit);
+    }
+    text
+}
+
+/// The file with this index of a comparison: its kind and bytes. Those from
+/// `files` on are the small runs.
+pub fn file(task: &Task, index: usize) -> (&'static str, Vec<u8>) {
+    let mut random = Random::new(task.seed.wrapping_add((index as u64) << 32));
+    random.draw();
+    let kind = match index < task.files {
+        true => KINDS[index % KINDS.len()].0,
+        false => "small",
+    };
+    let length = match index < task.files {
+        true => length(kind, &mut random),
+        false => random.within(200, 700),
+    };
+    let bytes = generate(kind, random.draw(), length).expect("a kind of the list");
+    (kind, bytes)
+}
+
+/// Runs a program with an input on standard input, by way of a file at this
+/// path, and gives what it prints.
+pub fn printed(program: &Path, input: &[u8], path: &Path) -> io::Result<Vec<u8>> {
+    fs::write(path, input)?;
+    let mut command = Command::new(program);
+    command.stdin(File::open(path)?).stderr(Stdio::null());
+    Ok(command.output()?.stdout)
+}
+
+/// The number of the first line in which two outputs differ, from 1.
+fn first_difference(ours: &[u8], theirs: &[u8]) -> usize {
+    let (a, b) = (ours.split(|&c| c == b'\n'), theirs.split(|&c| c == b'\n'));
+    let same = a.zip(b).take_while(|(x, y)| x == y);
+    same.count() + 1
+}
+
+/// The most runs that shortening makes, some twenty seconds.
+const MOST_TRIES: usize = 6000;
+
+/// Takes records out of a file while `differs` still holds: first all after
+/// the first difference, then pieces from half of the file down to one record,
+/// as long as there are tries left.
+pub fn shorten(
+    input: &[u8],
+    first: usize,
+    mut differs: impl FnMut(&[u8]) -> io::Result<bool>,
+) -> io::Result<Vec<u8>> {
+    let mut kept = pieces(input);
+    if first < kept.len() && differs(&kept[..first].concat())? {
+        kept.truncate(first);
+    }
+    let mut size = kept.len().div_ceil(2).max(1);
+    let mut tries = 0;
+    loop {
+        let before = kept.len();
+        let mut place = 0;
+        while place < kept.len() && tries < MOST_TRIES {
+            tries += 1;
+            let end = kept.len().min(place + size);
+            let without = [&kept[..place], &kept[end..]].concat();
+            if differs(&without.concat())? {
+                kept = without;
+            } else {
+                place = end;
+            }
+        }
+        match (size, kept.len() < before) {
+            (1, false) => return Ok(kept.concat()),
+            _ if tries == MOST_TRIES => return Ok(kept.concat()),
+            (1, true) => {}
+            _ => size = size.div_ceil(2),
+        }
+    }
+}
+
+/// Shortens a file on which the outputs differ and keeps all that is needed to
+/// look at it in a folder, whose path is given.
+fn keep_difference(task: &Task, name: &str, input: &[u8], path: &Path) -> io::Result<PathBuf> {
+    let theirs = printed(&task.program, input, path)?;
+    let first = first_difference(&output(input), &theirs);
+    let short = shorten(input, first, |candidate| {
+        Ok(printed(&task.program, candidate, path)? != output(candidate))
+    })?;
+    let folder = task.keep.join(name);
+    fs::create_dir_all(&folder)?;
+    let steps: Vec<String> = pieces(&short).into_iter().map(describe).collect();
+    fs::write(folder.join("whole.records"), input)?;
+    fs::write(folder.join("short.records"), &short)?;
+    fs::write(folder.join("short.steps"), steps.join("\n") + "\n")?;
+    fs::write(folder.join("short.ours"), output(&short))?;
+    let theirs = printed(&task.program, &short, path)?;
+    fs::write(folder.join("short.theirs"), theirs)?;
+    Ok(folder)
+}
+
+/// Compares one file; a difference is told in words.
+pub fn compare_one(
+    task: &Task,
+    index: usize,
+    path: &Path,
+    tally: &mut Tally,
+) -> io::Result<Option<String>> {
+    let (kind, input) = file(task, index);
+    let theirs = printed(&task.program, &input, path)?;
+    if theirs != output(&input) {
+        let name = format!("difference-{}-{index}", task.seed);
+        let folder = keep_difference(task, &name, &input, path)?;
+        return Ok(Some(format!(
+            "difference on file {index} (kind {kind}); see {}",
+            folder.display()
+        )));
+    }
+    if index < task.files {
+        tally.count(&input);
+        return Ok(None);
+    }
+    let ordered = history(&input, &theirs).filter(|o| find_order(o).is_some());
+    let Some(operations) = ordered else {
+        let kept = task.keep.join(format!("no-order-{}-{index}", task.seed));
+        fs::create_dir_all(&kept)?;
+        fs::write(kept.join("whole.records"), &input)?;
+        fs::write(kept.join("whole.lines"), &theirs)?;
+        return Ok(Some(format!("no order; see {}", kept.display())));
+    };
+    let finished = operations.iter().filter(|o| o.finished.is_some());
+    tally.ordered_operations += finished.count();
+    tally.orders += 1;
+    Ok(None)
+}
+
+/// The refusals that a file can bring about: all but 4 and 15.
+pub fn reachable() -> impl Iterator<Item = usize> {
+    let far = [Refusal::NumbersUsedUp, Refusal::BufferTooShort];
+    (1..=15).filter(move |number| far.iter().all(|r| usize::from(r.number()) != *number))
+}
+
+#[cfg(test)]
+mod tests {
+    use super::*;
+    use crate::words;
+
+    #[test]
+    fn commas() {
+        assert_eq!(with_commas(0), "0");
+        assert_eq!(with_commas(999), "999");
+        assert_eq!(with_commas(71_234_567), "71,234,567");
+    }
+
+    #[test]
+    fn the_first_difference_is_found() {
+        assert_eq!(first_difference(b"1 ok\n2 ok\n", b"1 ok\n2 no 7\n"), 2);
+        assert_eq!(first_difference(b"1 ok\n2 ok\n", b"1 ok\n"), 2);
+        assert_eq!(first_difference(b"1 ok\n", b""), 1);
+    }
+
+    /// A wrong program in which refusal 13 is printed as 12: what is left is a
+    /// start and one give-up.
+    #[test]
+    fn shortening_leaves_what_is_needed() {
+        let input = words::file(
+            "start 3; write 5 9; 2 * deliver 0; advance 2; advance 3; give up 7; \
+             2 * deliver 0; give up 1; read 5; 3 * deliver 0",
+        );
+        let wrong = |bytes: &[u8]| {
+            let text = String::from_utf8(output(bytes)).unwrap();
+            text.replace("no 13", "no 12").into_bytes()
+        };
+        let first = first_difference(&output(&input), &wrong(&input));
+        assert_eq!(first, 7);
+        let short = shorten(&input, first, |b| Ok(output(b) != wrong(b))).unwrap();
+        assert_eq!(short, words::file("start 3; give up 7"));
+    }
+
+    #[test]
+    fn four_and_fifteen_are_beyond_a_file() {
+        let all: Vec<usize> = reachable().collect();
+        assert_eq!(all, [1, 2, 3, 5, 6, 7, 8, 9, 10, 11, 12, 13, 14]);
+    }
+}

@@ -1,0 +1,157 @@
+//! The stored examples: small runs with names that say what they show. Each
+//! carries its last line as worked out by hand from document 01.
+//!
+//! They stand in tables of text, a paragraph each: `name: steps => last line`.
+//! A paragraph `let name: steps` gives some steps a name, for use as `{name}`
+//! further down.
+
+mod deliveries;
+mod ends;
+mod marks;
+mod refusals;
+mod removals;
+
+use crate::run::output;
+use crate::words::file;
+use std::fs;
+use std::io;
+use std::path::Path;
+
+/// The tables, in the order in which the examples are listed.
+const TABLES: [&str; 5] = [
+    ends::TABLE,
+    refusals::TABLE,
+    marks::TABLE,
+    deliveries::TABLE,
+    removals::TABLE,
+];
+
+/// A record file with a name, and the last line that it must print.
+pub struct Example {
+    pub name: &'static str,
+    pub input: Vec<u8>,
+    pub last: &'static str,
+}
+
+/// Every example, each name once.
+pub fn all() -> Vec<Example> {
+    TABLES.iter().flat_map(|table| read_table(table)).collect()
+}
+
+/// The examples of one table.
+fn read_table(table: &'static str) -> Vec<Example> {
+    let mut named: Vec<(String, String)> = Vec::new();
+    let mut examples = Vec::new();
+    for paragraph in table.split("\n\n") {
+        let (name, rest) = paragraph.trim().split_once(':').expect("a name");
+        let (steps, last) = rest.split_once("=>").unwrap_or((rest, ""));
+        let mut words = steps.split_whitespace().collect::<Vec<_>>().join(" ");
+        for (name, steps) in &named {
+            words = words.replace(name, steps);
+        }
+        match name.strip_prefix("let ") {
+            Some(name) => named.push((format!("{{{name}}}"), words)),
+            None => examples.push(Example {
+                name,
+                input: file(&words),
+                last: last.trim(),
+            }),
+        }
+    }
+    examples
+}
+
+/// What the run prints for the listing's records cut at 0, 1, 2 and so on to
+/// all of its bytes, one after the other.
+pub fn listing_cuts() -> Vec<u8> {
+    let listing = all().remove(0).input;
+    let cuts = (0..=listing.len()).map(|end| output(&listing[..end]));
+    cuts.collect::<Vec<_>>().concat()
+}
+
+/// Writes all examples into a folder and gives their number.
+pub fn write_all(folder: &Path) -> io::Result<usize> {
+    fs::create_dir_all(folder)?;
+    let all = all();
+    let mut index = String::new();
+    for example in &all {
+        let path = folder.join(example.name);
+        fs::write(path.with_extension("records"), &example.input)?;
+        fs::write(path.with_extension("lines"), output(&example.input))?;
+        index += example.name;
+        index.push('\n');
+    }
+    fs::write(folder.join("listing-cuts.lines"), listing_cuts())?;
+    fs::write(folder.join("index"), index)?;
+    Ok(all.len())
+}
+
+#[cfg(test)]
+mod tests {
+    use super::*;
+    use std::collections::HashSet;
+
+    #[test]
+    fn every_example_ends_with_the_line_worked_out() {
+        let mut wrong = String::new();
+        for example in all() {
+            let text = String::from_utf8(output(&example.input)).unwrap();
+            assert!(text.ends_with('\n'), "{}", example.name);
+            if text.lines().last() != Some(example.last) {
+                wrong += &format!("{}: not {}\n{text}\n", example.name, example.last);
+            }
+        }
+        assert!(wrong.is_empty(), "{wrong}");
+    }
+
+    #[test]
+    fn names_are_plain_and_stand_once() {
+        let mut seen = HashSet::new();
+        for example in all() {
+            let plain = |c: char| c.is_ascii_lowercase() || c.is_ascii_digit() || c == '-';
+            assert!(example.name.chars().all(plain), "{}", example.name);
+            assert!(seen.insert(example.name), "{}", example.name);
+        }
+        assert!(seen.len() >= 45);
+        assert!(!seen.contains("listing-cuts"));
+    }
+
+    #[test]
+    fn lengths_are_as_named() {
+        let long = all()
+            .into_iter()
+            .filter(|e| e.name.starts_with("length-655"));
+        let lengths: Vec<_> = long
+            .map(|e| (e.name[7..12].parse(), e.input.len()))
+            .collect();
+        assert_eq!(lengths.len(), 4);
+        assert!(lengths.iter().all(|(named, length)| *named == Ok(*length)));
+    }
+
+    #[test]
+    fn every_refusal_in_reach_of_a_file_occurs() {
+        let mut seen = HashSet::new();
+        for example in all() {
+            crate::run::walk(&example.input, |_, outcome| {
+                seen.extend(outcome.err().map(|r| r.number()));
+            });
+        }
+        let mut seen: Vec<u8> = seen.into_iter().collect();
+        seen.sort_unstable();
+        assert_eq!(seen, [1, 2, 3, 5, 6, 7, 8, 9, 10, 11, 12, 13, 14]);
+    }
+
+    /// 69 bytes in 12 records: each cut inside record k prints the lines
+    /// before it and `k no 1`; each cut after record k prints k lines.
+    #[test]
+    fn the_cuts_of_the_listing() {
+        let listing = all().remove(0).input;
+        assert_eq!(listing.len(), 4 + 9 + 7 * 6 + 4 + 5 + 5);
+        let cuts = String::from_utf8(listing_cuts()).unwrap();
+        assert!(cuts
+            .starts_with("1 no 1\n1 no 1\n1 no 1\n1 no 1\n1 ok 0 0 - -\n1 ok 0 0 - -\n2 no 1\n"));
+        assert!(cuts.ends_with("11 ok 0 0 2 9\n12 no 13\n"));
+        let ends = cuts.lines().filter(|l| l.ends_with("no 1")).count();
+        assert_eq!(ends, listing.len() + 1 - 12);
+    }
+}

@@ -1,0 +1,279 @@
+//! Random record files of many kinds, from a seed. Most kinds look at the
+//! model's state to choose steps that are mostly accepted.
+
+mod author;
+mod mood;
+
+use crate::model::Step;
+use crate::records::{append, pieces, Record, LONGEST};
+use crate::run::INPUT_LONGEST;
+use author::Author;
+use mood::mood;
+
+/// A small seeded source of numbers (splitmix).
+pub struct Random(u64);
+
+impl Random {
+    /// The source for a seed.
+    pub fn new(seed: u64) -> Self {
+        Random(seed)
+    }
+
+    /// The next 64 bits.
+    pub fn draw(&mut self) -> u64 {
+        self.0 = self.0.wrapping_add(0x9e37_79b9_7f4a_7c15);
+        let mut z = self.0;
+        z = (z ^ (z >> 30)).wrapping_mul(0xbf58_476d_1ce4_e5b9);
+        z = (z ^ (z >> 27)).wrapping_mul(0x94d0_49bb_1331_11eb);
+        z ^ (z >> 31)
+    }
+
+    /// A number below `end`, which is above 0.
+    pub fn below(&mut self, end: usize) -> usize {
+        (self.draw() >> 32) as usize % end
+    }
+
+    /// A number from `first` to `last`.
+    pub fn within(&mut self, first: usize, last: usize) -> usize {
+        first + self.below(last - first + 1)
+    }
+
+    /// True that many times in a thousand.
+    pub fn chance(&mut self, thousandths: usize) -> bool {
+        self.below(1000) < thousandths
+    }
+
+    /// One of some items, which are not none.
+    pub fn one_of<T: Copy>(&mut self, items: &[T]) -> T {
+        items[self.below(items.len())]
+    }
+}
+
+/// The kinds of files, each with what it is about.
+pub const KINDS: [(&str, &str); 16] = [
+    ("accepted", "mostly accepted steps of every tag"),
+    ("dense", "reads and writes of few objects"),
+    ("full-waiting", "nearly full waiting list"),
+    ("full-links", "nearly full links"),
+    ("full-open", "nearly 64 open operations"),
+    ("colliding", "objects that share slots in all three stages"),
+    (
+        "replacements",
+        "new switches, late completions, late permits",
+    ),
+    (
+        "removals",
+        "heads, middles, tails removed, writes in the links",
+    ),
+    ("repeats-losses", "many repeated and lost packets"),
+    ("direct-reads", "direct reads with writes under way"),
+    ("lone", "a single replica"),
+    ("small", "few operations on one or two objects"),
+    ("limits", "fields at their limits"),
+    ("random-steps", "well-formed records with random fields"),
+    ("damaged", "a run with a fault in its bytes"),
+    ("noise", "random bytes"),
+];
+
+/// A file of a kind, from a seed, of at most this length (exactly this length
+/// except for kind `damaged`); none if there is no such kind.
+pub fn generate(kind: &str, seed: u64, length: usize) -> Option<Vec<u8>> {
+    let place = KINDS.iter().position(|(name, _)| *name == kind)?;
+    let mut random = Random::new(seed ^ (place as u64) << 56);
+    random.draw();
+    Some(match kind {
+        "noise" => noise(&mut random, length),
+        "damaged" => damaged(&mut random, length),
+        "random-steps" => random_steps(&mut random, length),
+        _ => {
+            let mood = mood(kind, &mut random, length);
+            Author::new(mood, random).write(length)
+        }
+    })
+}
+
+/// A length for a file of a kind: many short, a good share long, some at the
+/// limit and some one above it.
+pub fn length(kind: &str, random: &mut Random) -> usize {
+    let short = random.within(8, 600);
+    match (kind, random.below(100)) {
+        (_, 0..2) => INPUT_LONGEST + 1,
+        ("small", _) => short,
+        (_, 2..10) => INPUT_LONGEST,
+        ("noise", _) => random.below(300),
+        ("removals", 10..80) => random.within(100, 3000),
+        (_, 10..50) => random.within(30_000, INPUT_LONGEST),
+        (_, 50..75) => random.within(600, 30_000),
+        _ => short,
+    }
+}
+
+/// Random bytes, behind a start or not.
+fn noise(random: &mut Random, length: usize) -> Vec<u8> {
+    let mut bytes = Vec::with_capacity(length + 4);
+    if random.chance(600) {
+        let replicas = random.within(1, 8) as u8;
+        append(Record::Start { replicas }, &mut bytes);
+    }
+    let highest = random.one_of(&[3, 12, 40, 255]);
+    while bytes.len() < length {
+        bytes.push(random.within(0, highest) as u8);
+    }
+    bytes.truncate(length);
+    bytes
+}
+
+/// A number below a random power of two, so that small ones are common.
+fn any_number(random: &mut Random) -> u32 {
+    let bits = random.within(0, 32);
+    (random.draw() >> 32 >> (32 - bits)) as u32
+}
+
+/// Well-formed records after a start, fields without a look at any state.
+fn random_steps(random: &mut Random, length: usize) -> Vec<u8> {
+    let mut bytes = Vec::with_capacity(length + LONGEST);
+    let replicas = random.within(1, 8) as u8;
+    append(Record::Start { replicas }, &mut bytes);
+    while bytes.len() < length {
+        let small = random.below(12) as u16;
+        let large = any_number(random) as u16;
+        let pair = random.one_of(&[small, small, large]);
+        let byte = random.one_of(&[pair as u8, random.0 as u8 % 10]);
+        let step = match random.below(16) {
+            0 => Step::Read { object: pair },
+            1 => Step::Write {
+                object: pair,
+                value: any_number(random),
+            },
+            2 => Step::Lose { position: pair },
+            3 | 4 => Step::Repeat { position: pair },
+            5..=7 => Step::Advance { replica: byte },
+            8 => Step::Tell { replica: byte },
+            9 => Step::GiveUp { operation: pair },
+            10 if random.chance(100) => Step::Replace { switch: pair },
+            11 if random.chance(20) => Step::Remove { replica: byte },
+            _ => Step::Deliver {
+                position: pair,
+                choice: byte,
+            },
+        };
+        append(Record::Step(step), &mut bytes);
+    }
+    bytes.truncate(length);
+    bytes
+}
+
+/// A run of some other kind with a fault put in its bytes.
+fn damaged(random: &mut Random, length: usize) -> Vec<u8> {
+    let sound = random.one_of(&KINDS[..13]).0;
+    let mood = mood(sound, random, length);
+    let seed = random.draw();
+    let mut bytes = Author::new(mood, Random::new(seed)).write(length);
+    if bytes.is_empty() {
+        return bytes;
+    }
+    let anywhere = random.below(bytes.len());
+    let parts: Vec<usize> = pieces(&bytes).iter().map(|p| p.len()).collect();
+    let count = random.below(parts.len());
+    let boundary: usize = parts[..count].iter().sum();
+    match random.below(8) {
+        0 => bytes.truncate(anywhere),
+        1 => bytes[boundary] = random.draw() as u8,
+        2 => spoil_length(&mut bytes, boundary, random),
+        3 => insert(&mut bytes, boundary, &[32, 0, 1, random.below(10) as u8]),
+        4 => bytes[anywhere] ^= 1 << random.below(8),
+        5 => {
+            let end = bytes.len().min(anywhere + random.within(1, 5));
+            bytes.drain(anywhere..end);
+        }
+        6 => insert(&mut bytes, anywhere, &[random.draw() as u8]),
+        _ => spoil_start(&mut bytes, random),
+    }
+    bytes.truncate(length);
+    bytes
+}
+
+/// Puts bytes into a file at a place.
+fn insert(bytes: &mut Vec<u8>, place: usize, more: &[u8]) {
+    bytes.splice(place..place, more.iter().copied());
+}
+
+/// Changes one of the two length bytes of the record at a place.
+fn spoil_length(bytes: &mut [u8], place: usize, random: &mut Random) {
+    let which = random.within(1, 2);
+    if let Some(byte) = bytes.get_mut(place + which) {
+        *byte = random.one_of(&[0, 1, 2, 3, 4, 6, 7, 255]);
+    }
+}
+
+/// Makes the first record something else than a start.
+fn spoil_start(bytes: &mut Vec<u8>, random: &mut Random) {
+    match random.below(4) {
+        0 => drop(bytes.drain(..bytes.len().min(4))),
+        1 => insert(bytes, 0, &[3, 0, 3, 0, 0, 0]),
+        2 => insert(bytes, 0, &[32, 0, 2, 1]),
+        _ => insert(bytes, 0, &[32, 0, 1, random.draw() as u8]),
+    }
+}
+
+#[cfg(test)]
+mod tests {
+    use super::*;
+    use crate::run::walk;
+
+    #[test]
+    fn a_seed_gives_the_same_file_again() {
+        for (kind, _) in KINDS {
+            let first = generate(kind, 7, 900);
+            assert_eq!(first, generate(kind, 7, 900), "{kind}");
+            assert_ne!(first, generate(kind, 8, 900), "{kind}");
+        }
+        assert_eq!(generate("no-such-kind", 7, 900), None);
+    }
+
+    #[test]
+    fn the_length_is_met_and_most_files_end_whole() {
+        for (kind, _) in &KINDS[..13] {
+            for length in (0..80).chain([65_535, 65_536, 65_537]) {
+                let file = generate(kind, length as u64, length).unwrap();
+                assert_eq!(file.len(), length, "{kind}");
+                let whole = pieces(&file)
+                    .iter()
+                    .all(|p| crate::records::read(p).is_some());
+                assert_eq!(
+                    whole,
+                    !matches!(length, 1..=3 | 5..=7 | 11),
+                    "{kind} {length}"
+                );
+            }
+        }
+    }
+
+    #[test]
+    fn runs_that_look_at_the_state_are_mostly_accepted() {
+        for kind in ["accepted", "dense", "colliding", "replacements", "small"] {
+            let file = generate(kind, 3, 30_000).unwrap();
+            let (mut all, mut accepted) = (0, 0);
+            walk(&file, |_, outcome| {
+                all += 1;
+                accepted += usize::from(outcome.is_ok());
+            });
+            assert!(
+                kind == "small" || accepted * 10 > all * 8,
+                "{kind}: {accepted} of {all}"
+            );
+        }
+    }
+
+    #[test]
+    fn small_files_begin_few_operations() {
+        for seed in 0..50 {
+            let file = generate("small", seed, 600).unwrap();
+            let begins = pieces(&file)
+                .iter()
+                .filter(|p| p[0] == 1 || p[0] == 2)
+                .count();
+            assert!(begins <= 8, "{begins}");
+        }
+    }
+}

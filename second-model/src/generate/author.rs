@@ -1,0 +1,379 @@
+//! Writes a run step by step, with an eye on the model's state.
+
+use super::mood::*;
+use super::Random;
+use crate::model::{Model, Packet, Step, FULL, REPLICAS};
+use crate::records::{append, Record, LONGEST};
+
+/// Writes one file: the mood, the model as it stands, the bytes so far.
+pub struct Author {
+    mood: Mood,
+    random: Random,
+    model: Model,
+    bytes: Vec<u8>,
+}
+
+/// Can whole records fill what is left after one of this size? They have 4, 5,
+/// 6 or 9 bytes.
+fn leaves_room(left: usize, size: usize) -> bool {
+    let after = left.checked_sub(size);
+    after.is_some_and(|after| !matches!(after, 1..=3 | 7))
+}
+
+impl Author {
+    pub fn new(mood: Mood, random: Random) -> Self {
+        let n = mood.replicas.clamp(1, REPLICAS);
+        let model = Model::start(n).expect("n from 1 to 8");
+        let mut bytes = Vec::new();
+        let replicas = mood.replicas;
+        append(Record::Start { replicas }, &mut bytes);
+        Author {
+            mood,
+            random,
+            model,
+            bytes,
+        }
+    }
+
+    /// One write all the way through the chain, so that direct reads are on.
+    fn open_with_a_write(&mut self) {
+        let first = self.act(WRITE);
+        let deliver = Step::Deliver {
+            position: 0,
+            choice: 0,
+        };
+        let others: Vec<u8> = self.model.live().skip(1).collect();
+        let advances = others.into_iter().map(|replica| Step::Advance { replica });
+        let start = [first, deliver, deliver];
+        let steps = start.into_iter().chain(advances).chain([deliver, deliver]);
+        for step in steps {
+            append(Record::Step(step), &mut self.bytes);
+            let _ = self.model.step(step);
+        }
+    }
+
+    /// The file, of exactly this length, cut in a record only if it must be.
+    pub fn write(mut self, length: usize) -> Vec<u8> {
+        if self.mood.mischief && length > 100 {
+            self.open_with_a_write();
+        }
+        while self.bytes.len() < length {
+            let before = self.bytes.len();
+            let left = length - before;
+            let mut step = self.choose();
+            append(Record::Step(step), &mut self.bytes);
+            if left < 2 * LONGEST && !leaves_room(left, self.bytes.len() - before) {
+                self.bytes.truncate(before);
+                step = self.filler(left);
+                append(Record::Step(step), &mut self.bytes);
+            }
+            let _ = self.model.step(step);
+        }
+        self.bytes.truncate(length);
+        self.bytes
+    }
+
+    /// A step whose record leaves room for whole records, if there is one.
+    fn filler(&mut self, left: usize) -> Step {
+        match [6, 5, 4].into_iter().find(|&s| leaves_room(left, s)) {
+            Some(5) => self.act(LOSE),
+            Some(4) => self.act(TELL),
+            _ => self.act(DELIVER),
+        }
+    }
+
+    /// The next step: an action by weight, its fields by the model's state, or
+    /// now and then a wild one.
+    fn choose(&mut self) -> Step {
+        let weights = self.weights();
+        let total: usize = weights.iter().sum();
+        let mut drawn = self.random.below(total.max(1));
+        let mut action = DELIVER;
+        for (place, weight) in weights.into_iter().enumerate() {
+            if drawn < weight {
+                action = place;
+                break;
+            }
+            drawn -= weight;
+        }
+        if self.random.chance(self.mood.wild) {
+            let action = self.random.one_of(&[action, self.random.0 as usize % 10]);
+            return self.act_wildly(action);
+        }
+        self.act(action)
+    }
+
+    /// The mood's weights, moved so that the run stays where the mood wants
+    /// it and most steps are accepted.
+    fn weights(&self) -> [usize; 10] {
+        let (mood, model) = (&self.mood, &self.model);
+        let mut weights = mood.weights;
+        if model.waiting() < mood.waiting {
+            weights[DELIVER] /= 4;
+            weights[LOSE] /= 4;
+        } else {
+            weights[READ] /= 4;
+            weights[WRITE] /= 4;
+            weights[REPEAT] /= 4;
+        }
+        if model.linked() < mood.linked {
+            weights[ADVANCE] /= 8;
+        }
+        if model.open() < mood.open {
+            weights[GIVE_UP] /= 8;
+        } else {
+            weights[GIVE_UP] += 2000;
+        }
+        if model.open() >= FULL {
+            weights[READ] /= 8;
+            weights[WRITE] /= 8;
+        }
+        if mood.mischief && self.laden_middle().is_some() {
+            weights[REMOVE] *= 10;
+        }
+        self.without_idle(weights)
+    }
+
+    /// Some weights without the actions that would now be refused or idle.
+    fn without_idle(&self, mut weights: [usize; 10]) -> [usize; 10] {
+        let model = &self.model;
+        let now = Some(model.switch_number());
+        if model.waiting() == 0 {
+            weights[DELIVER..=REPEAT].fill(0);
+        }
+        if model.linked() == 0 {
+            weights[ADVANCE] = 0;
+        }
+        if model.live().all(|r| model.permits(r) == now) {
+            weights[TELL] = 0;
+        }
+        if model.open() == 0 {
+            weights[GIVE_UP] = 0;
+        }
+        if model.begun() >= self.mood.begins {
+            weights[READ..=WRITE].fill(0);
+        }
+        if model.live().len() == 1 {
+            weights[REMOVE] = 0;
+        }
+        weights
+    }
+
+    /// A step with fields that the state suggests.
+    fn act(&mut self, action: usize) -> Step {
+        match action {
+            READ => Step::Read {
+                object: self.random.one_of(&self.mood.objects),
+            },
+            WRITE => self.write_step(),
+            DELIVER => Step::Deliver {
+                position: self.position(),
+                choice: self.random.draw() as u8,
+            },
+            LOSE => Step::Lose {
+                position: self.any_position(),
+            },
+            REPEAT => Step::Repeat {
+                position: self.repeatable(),
+            },
+            ADVANCE => Step::Advance {
+                replica: self.advancing(),
+            },
+            REPLACE => self.replacement(),
+            TELL => Step::Tell {
+                replica: self.untold(),
+            },
+            REMOVE => self.removal(),
+            _ => Step::GiveUp {
+                operation: self.open_operation(),
+            },
+        }
+    }
+
+    /// A write, most often with a value that no other write has.
+    fn write_step(&mut self) -> Step {
+        let object = self.random.one_of(&self.mood.objects);
+        let value = match self.random.below(10) {
+            0 => self.random.draw() as u32,
+            _ => u32::from(self.model.begun()) + 1,
+        };
+        Step::Write { object, value }
+    }
+
+    fn any_position(&mut self) -> u16 {
+        self.random.below(self.model.waiting().max(1)) as u16
+    }
+
+    /// The first unstamped write or the oldest packet as often as the mood
+    /// wants, else any.
+    fn position(&mut self) -> u16 {
+        if self.mood.mischief {
+            return self.mischievous_position();
+        }
+        if self.random.chance(self.mood.eager) {
+            let unstamped = |p: &Packet| matches!(p, Packet::UnstampedWrite { .. });
+            return self.first(unstamped).unwrap_or(0);
+        }
+        if self.random.chance(self.mood.orderly) {
+            return 0;
+        }
+        self.any_position()
+    }
+
+    /// The first waiting packet of some sort.
+    fn first(&self, sort: impl Fn(&Packet) -> bool) -> Option<u16> {
+        let found = self.model.packets().iter().position(sort);
+        found.map(|position| position as u16)
+    }
+
+    /// A direct read if its replica is ahead of what it carries, else a reply
+    /// or, now and then, any other packet.
+    fn mischievous_position(&mut self) -> u16 {
+        let model = &self.model;
+        let direct = |p: &Packet| matches!(p, Packet::DirectRead { .. });
+        let ahead = |p: &Packet| match *p {
+            Packet::DirectRead {
+                to,
+                object,
+                committed,
+                ..
+            } => model.held(to, object).is_some_and(|h| h.stamp > committed),
+            _ => false,
+        };
+        let first = self.first(ahead);
+        let reply = self.first(|p| matches!(p, Packet::Reply { .. }));
+        let other = self.first(|p| !direct(p));
+        let any = self.any_position();
+        let packet = self.model.packets().get(usize::from(any));
+        let held_back = packet.is_some_and(direct);
+        match (first, reply, other, self.random.below(8)) {
+            (Some(ahead), _, _, 0..4) => ahead,
+            (_, Some(reply), _, 0..5) => reply,
+            (_, _, Some(other), _) if held_back => other,
+            _ => any,
+        }
+    }
+
+    /// Most often a packet that may be repeated, if a few tries find one.
+    fn repeatable(&mut self) -> u16 {
+        let tries = self.random.one_of(&[0, 4, 4, 4]);
+        for _ in 0..tries {
+            let position = self.any_position();
+            let packet = self.model.packets().get(usize::from(position));
+            if !matches!(packet, Some(Packet::UnstampedWrite { .. })) {
+                return position;
+            }
+        }
+        self.any_position()
+    }
+
+    /// Any live replica; head and tail more often than one between.
+    fn any_replica(&mut self) -> u8 {
+        let last = self.model.live().len() - 1;
+        let place = match self.random.below(4) {
+            0 => 0,
+            1 => last,
+            _ => self.random.within(0, last),
+        };
+        self.model.live().nth(place).unwrap_or(1)
+    }
+
+    /// A replica between head and tail with a write in a link beside it.
+    fn laden_middle(&self) -> Option<u8> {
+        let model = &self.model;
+        let laden = |replica: u8| model.incoming(replica).len() > 0;
+        let next = model.live().skip(2);
+        let mut middles = model.live().skip(1).zip(next);
+        let found = middles.find(|&(middle, next)| laden(middle) || laden(next));
+        found.map(|(middle, _)| middle)
+    }
+
+    /// Any live replica, or as often one between with writes beside it.
+    fn removal(&mut self) -> Step {
+        let any = self.any_replica();
+        let laden = self.laden_middle().unwrap_or(any);
+        Step::Remove {
+            replica: self.random.one_of(&[any, laden]),
+        }
+    }
+
+    /// A replica with a write coming in, if there is one.
+    fn advancing(&mut self) -> u8 {
+        let offset = self.random.below(8);
+        let model = &self.model;
+        let around = model.live().chain(model.live()).skip(offset);
+        let mut ready = around.filter(|&r| model.incoming(r).len() > 0);
+        ready.next().unwrap_or(1)
+    }
+
+    /// A replica that does not permit the present switch, or any.
+    fn untold(&mut self) -> u8 {
+        let model = &self.model;
+        let untold = |r: &u8| model.permits(*r) != Some(model.switch_number());
+        let found: Vec<u8> = model.live().filter(untold).collect();
+        match found.as_slice() {
+            [] => self.any_replica(),
+            untold => self.random.one_of(untold),
+        }
+    }
+
+    fn replacement(&mut self) -> Step {
+        let above = self.random.one_of(&[1, 1, 1, 2, 40]);
+        Step::Replace {
+            switch: self.model.switch_number().saturating_add(above),
+        }
+    }
+
+    /// An open operation, if a few tries among the latest find one.
+    fn open_operation(&mut self) -> u16 {
+        let begun = usize::from(self.model.begun());
+        let latest = begun.min(100);
+        for _ in 0..20 {
+            let operation = (begun - self.random.within(0, latest)) as u16;
+            if self.model.is_open(operation) {
+                return operation;
+            }
+        }
+        begun as u16
+    }
+
+    /// A step with fields at their limits.
+    fn act_wildly(&mut self, action: usize) -> Step {
+        let random = &mut self.random;
+        let n = self.mood.replicas;
+        let replica = random.one_of(&[0, 1, 2, n, n.wrapping_add(1), 7, 8, 9, 128, 255]);
+        let waiting = self.model.waiting() as u16;
+        let last = waiting.saturating_sub(1);
+        let position = random.one_of(&[0, last, waiting, 62, 63, 64, 255, 256, 65_535]);
+        let object = random.one_of(&[0, 15, 16, 63, 64, 1022, 1023, 1024, 1025, 32_768, 65_535]);
+        let value = random.one_of(&[0, 1, 255, 256, 65_536, 1 << 31, u32::MAX]);
+        let begun = self.model.begun();
+        let operation = random.one_of(&[0, 1, begun, begun.saturating_add(1), 256, 65_535]);
+        match action {
+            READ => Step::Read { object },
+            WRITE => Step::Write { object, value },
+            DELIVER => Step::Deliver {
+                position,
+                choice: random.one_of(&[0, 1, 7, 8, 127, 128, 255]),
+            },
+            LOSE => Step::Lose { position },
+            REPEAT => Step::Repeat { position },
+            ADVANCE => Step::Advance { replica },
+            REPLACE => self.wild_replacement(),
+            TELL => Step::Tell { replica },
+            REMOVE => Step::Remove { replica },
+            _ => Step::GiveUp { operation },
+        }
+    }
+
+    /// A new switch number at a limit; the last one, 65,535, is rare.
+    fn wild_replacement(&mut self) -> Step {
+        let now = self.model.switch_number();
+        let next = now.saturating_add(1);
+        let mut switch = self.random.one_of(&[0, 1, now - 1, now, now, next]);
+        if self.random.chance(10) {
+            switch = self.random.one_of(&[256, 65_534, 65_535]);
+        }
+        Step::Replace { switch }
+    }
+}

@@ -1,0 +1,222 @@
+//! What a run of each kind tends to do.
+
+use super::Random;
+use crate::model::OBJECTS;
+
+/// The places of the actions in a table of weights.
+pub const READ: usize = 0;
+pub const WRITE: usize = 1;
+pub const DELIVER: usize = 2;
+pub const LOSE: usize = 3;
+pub const REPEAT: usize = 4;
+pub const ADVANCE: usize = 5;
+pub const REPLACE: usize = 6;
+pub const TELL: usize = 7;
+pub const REMOVE: usize = 8;
+pub const GIVE_UP: usize = 9;
+
+/// What a run tends to do.
+pub struct Mood {
+    /// Replicas at the start.
+    pub replicas: u8,
+    /// The objects it reads and writes.
+    pub objects: Vec<u16>,
+    /// How often each action is taken.
+    pub weights: [usize; 10],
+    /// The numbers of waiting packets, linked writes and open operations
+    /// around which it stays.
+    pub waiting: usize,
+    pub linked: usize,
+    pub open: usize,
+    /// Of a thousand deliveries, those of the oldest packet.
+    pub orderly: usize,
+    /// Of a thousand deliveries, those of the first unstamped write.
+    pub eager: usize,
+    /// Of a thousand steps, those with fields at their limits.
+    pub wild: usize,
+    /// Are direct reads held back until their replica is ahead?
+    pub mischief: bool,
+    /// The most operations begun.
+    pub begins: u16,
+}
+
+/// The mood of a kind.
+pub fn mood(kind: &str, random: &mut Random, length: usize) -> Mood {
+    let mut mood = Mood {
+        replicas: random.within(1, 8) as u8,
+        objects: some_objects(random, 40),
+        weights: [1500, 1500, 6000, 150, 200, 3000, 4, 1500, 0, 100],
+        waiting: random.within(3, 30),
+        linked: random.within(2, 12),
+        open: random.within(20, 60),
+        orderly: 600,
+        eager: 0,
+        wild: 10,
+        mischief: false,
+        begins: u16::MAX,
+    };
+    mood.weights[REMOVE] = removal_weight(length, 3);
+    match kind {
+        "dense" => mood.objects = some_objects(random, 3),
+        "full-waiting" => fill_waiting(&mut mood, random),
+        "full-links" => fill_links(&mut mood, random),
+        "full-open" => fill_open(&mut mood, random),
+        "colliding" => collide(&mut mood, random),
+        "replacements" => replace_often(&mut mood, random),
+        "removals" => remove_often(&mut mood, random, length),
+        "repeats-losses" => mood.weights[LOSE..=REPEAT].fill(2500),
+        "direct-reads" => read_often(&mut mood, random),
+        "lone" => mood.replicas = 1,
+        "small" => stay_small(&mut mood, random, length),
+        "limits" => go_wild(&mut mood, random),
+        _ => {}
+    }
+    mood
+}
+
+/// The weight that makes about this many removals in a file of this length.
+fn removal_weight(length: usize, removals: usize) -> usize {
+    let steps = length / 5 + 1;
+    14_000 * removals / steps
+}
+
+fn some_objects(random: &mut Random, most: usize) -> Vec<u16> {
+    let count = random.within(1, most);
+    let object = |_| random.below(usize::from(OBJECTS)) as u16;
+    (0..count).map(object).collect()
+}
+
+fn fill_waiting(mood: &mut Mood, random: &mut Random) {
+    mood.waiting = random.within(61, 65);
+    mood.open = random.within(30, 63);
+    mood.weights[REPEAT] = 1500;
+    mood.weights[GIVE_UP] = 600;
+    mood.replicas = random.one_of(&[1, 1, 2, 3, 8]);
+}
+
+fn fill_links(mood: &mut Mood, random: &mut Random) {
+    mood.replicas = random.within(2, 8) as u8;
+    mood.objects = some_objects(random, 12);
+    mood.linked = random.within(60, 65);
+    mood.open = 30;
+    mood.weights[WRITE] = 3500;
+    mood.weights[READ] = 300;
+    mood.weights[ADVANCE] = 6000;
+    mood.weights[GIVE_UP] = 2500;
+    mood.orderly = 950;
+}
+
+fn fill_open(mood: &mut Mood, random: &mut Random) {
+    mood.open = random.within(62, 65);
+    mood.waiting = random.within(4, 64);
+    mood.weights[LOSE] = 1500;
+}
+
+/// Objects that share slots: those of P4 and P5, those that share one with a
+/// random object, or sixteen that have eight slots between them.
+fn collide(mood: &mut Mood, random: &mut Random) {
+    mood.objects = match random.below(4) {
+        0 => vec![0, 16, 17, 32, 33, 256, 512],
+        1 => sharing(random),
+        _ => sixteen(random),
+    };
+    mood.weights[WRITE] = 4000;
+    mood.waiting = random.within(20, 60);
+    mood.eager = random.one_of(&[100, 700, 850]);
+    mood.orderly = random.one_of(&[100, 500, 900]);
+}
+
+/// A random object and some that share a slot with it.
+fn sharing(random: &mut Random) -> Vec<u16> {
+    let base = random.below(1024) as u16;
+    let shares =
+        |o: &u16| o % 16 == base % 16 || (o / 16) % 16 == (base / 16) % 16 || o / 64 == base / 64;
+    let all: Vec<u16> = (0..1024).filter(shares).collect();
+    let count = random.within(4, 24);
+    let mut some: Vec<u16> = (0..count).map(|_| random.one_of(&all)).collect();
+    some.push(base);
+    some
+}
+
+/// Sixteen objects with two slots in the first stage, two in the second and
+/// four in the third.
+fn sixteen(random: &mut Random) -> Vec<u16> {
+    let base = random.below(1024) as u16;
+    let (first, second) = (random.within(1, 15) as u16, random.within(1, 3) as u16);
+    let object = |k: u16| {
+        let low = (base ^ (k % 2 * first)) % 16;
+        let middle = ((base / 16) ^ (k / 2 % 2 * second)) % 4;
+        let high = (base / 64 + 4 * (k / 4)) % 16;
+        64 * high + 16 * middle + low
+    };
+    (0..16).map(object).collect()
+}
+
+fn replace_often(mood: &mut Mood, random: &mut Random) {
+    mood.objects = some_objects(random, 6);
+    mood.weights[REPLACE] = random.one_of(&[30, 100, 400]);
+    mood.weights[TELL] = random.one_of(&[300, 1000, 4000]);
+    mood.weights[REPEAT] = 800;
+    mood.orderly = random.one_of(&[100, 600]);
+}
+
+fn remove_often(mood: &mut Mood, random: &mut Random, length: usize) {
+    mood.replicas = random.within(3, 8) as u8;
+    mood.objects = some_objects(random, 6);
+    mood.weights[REMOVE] = removal_weight(length, 9);
+    mood.weights[WRITE] = 3000;
+    mood.linked = random.within(6, 50);
+    mood.orderly = 800;
+}
+
+fn read_often(mood: &mut Mood, random: &mut Random) {
+    mood.replicas = random.within(2, 8) as u8;
+    mood.objects = some_objects(random, 4);
+    mood.weights[READ] = 3500;
+    mood.weights[WRITE] = 800;
+    mood.weights[REPEAT] = 500;
+}
+
+/// Few operations on one or two objects. Writes linger in the links and direct
+/// reads in the list, so that reads meet replicas that differ.
+fn stay_small(mood: &mut Mood, random: &mut Random, length: usize) {
+    mood.replicas = random.one_of(&[1, 2, 2, 3, 3, 3, 4]);
+    mood.objects = some_objects(random, 2);
+    mood.begins = random.within(5, 8) as u16;
+    mood.waiting = random.within(2, 5);
+    mood.linked = 0;
+    mood.weights = [700, 450, 6000, 60, 200, 2500, 30, 2500, 0, 5];
+    mood.weights[ADVANCE] = random.one_of(&[400, 1000, 2500]);
+    mood.weights[REMOVE] = removal_weight(length, random.one_of(&[0, 1, 1]));
+    mood.orderly = random.one_of(&[0, 200, 500]);
+    mood.mischief = random.chance(800);
+    mood.wild = 0;
+}
+
+fn go_wild(mood: &mut Mood, random: &mut Random) {
+    mood.wild = random.one_of(&[100, 400]);
+    mood.objects = vec![0, 1, 15, 16, 63, 64, 511, 512, 1022, 1023];
+    if random.chance(100) {
+        mood.replicas = random.one_of(&[0, 9, 10, 128, 255]);
+    }
+}
+
+#[cfg(test)]
+mod tests {
+    use super::*;
+    use std::collections::HashSet;
+
+    #[test]
+    fn sixteen_objects_have_eight_slots() {
+        for seed in 0..20 {
+            let objects: HashSet<u16> = sixteen(&mut Random::new(seed)).into_iter().collect();
+            let count =
+                |slot: fn(&u16) -> u16| objects.iter().map(slot).collect::<HashSet<_>>().len();
+            assert_eq!(objects.len(), 16);
+            assert!(objects.iter().all(|&o| o < OBJECTS));
+            assert_eq!(count(|o| o % 16), 2);
+            assert_eq!(count(|o| o / 16 % 16), 2);
+            assert_eq!(count(|o| o / 64), 4);
+        }
+    }
+}

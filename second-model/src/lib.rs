@@ -1,0 +1,11 @@
+//! A second model of the session store machine of document 01: one switch,
+//! one chain of replicas, packets in every order.
+
+pub mod compare;
+pub mod examples;
+pub mod generate;
+pub mod model;
+pub mod order;
+pub mod records;
+pub mod run;
+pub mod words;

@@ -1,0 +1,503 @@
+//! The machine: a switch, a chain, the waiting packets and the open
+//! operations, and what each step does to them (document 01).
+
+mod chain;
+mod switch;
+
+use chain::Chain;
+pub use chain::{Held, Write};
+use switch::Switch;
+
+/// Objects are 0 to 1,023.
+pub const OBJECTS: u16 = 1024;
+/// The most packets waiting, writes linked, and operations open.
+pub const FULL: usize = 64;
+/// The most replicas at a start.
+pub const REPLICAS: u8 = 8;
+
+/// Switch number and counter, compared by switch number first (P1).
+#[derive(Clone, Copy, Debug, Default, PartialEq, Eq, PartialOrd, Ord)]
+pub struct Stamp(u32);
+
+impl Stamp {
+    /// The stamp (0,0).
+    pub const ZERO: Stamp = Stamp(0);
+
+    /// The stamp (switch, counter).
+    pub const fn new(switch: u16, counter: u16) -> Self {
+        Stamp((switch as u32) << 16 | counter as u32)
+    }
+}
+
+/// A step after the start: tags 1 to 10 of "Steps and their records".
+#[derive(Clone, Copy, Debug, PartialEq, Eq)]
+pub enum Step {
+    Read { object: u16 },
+    Write { object: u16, value: u32 },
+    Deliver { position: u16, choice: u8 },
+    Lose { position: u16 },
+    Repeat { position: u16 },
+    Advance { replica: u8 },
+    Replace { switch: u16 },
+    Tell { replica: u8 },
+    Remove { replica: u8 },
+    GiveUp { operation: u16 },
+}
+
+/// The rows of "Turned down", by their numbers.
+#[derive(Clone, Copy, Debug, PartialEq, Eq)]
+#[repr(u8)]
+pub enum Refusal {
+    BadRecord = 1,
+    BadReplicaCount = 2,
+    BadObject = 3,
+    NumbersUsedUp = 4,
+    TooManyOpen = 5,
+    TooManyWaiting = 6,
+    NoPacket = 7,
+    UnstampedRepeat = 8,
+    NotLive = 9,
+    NothingIncoming = 10,
+    SwitchNotAbove = 11,
+    OnlyOneLive = 12,
+    NotOpen = 13,
+    InputTooLong = 14,
+    BufferTooShort = 15,
+}
+
+impl Refusal {
+    /// The number that is returned and printed.
+    pub fn number(self) -> u8 {
+        self as u8
+    }
+}
+
+/// The operation and value that a deliver has just finished.
+#[derive(Clone, Copy, Debug, PartialEq, Eq)]
+pub struct Finished {
+    pub operation: u16,
+    pub value: u32,
+}
+
+/// What a step gives back: accepted, perhaps with an operation just finished,
+/// or turned down with all unchanged.
+pub type Answer = Result<Option<Finished>, Refusal>;
+
+/// A waiting packet, one case for each item of "What delivery does".
+#[derive(Clone, Copy, Debug, PartialEq, Eq)]
+pub enum Packet {
+    UnstampedWrite {
+        operation: u16,
+        object: u16,
+        value: u32,
+    },
+    Read {
+        operation: u16,
+        object: u16,
+    },
+    StampedWrite {
+        to: u8,
+        write: Write,
+    },
+    DirectRead {
+        to: u8,
+        operation: u16,
+        object: u16,
+        switch: u16,
+        committed: Stamp,
+    },
+    NormalRead {
+        to: u8,
+        operation: u16,
+        object: u16,
+    },
+    Completion {
+        object: u16,
+        stamp: Stamp,
+    },
+    Reply {
+        operation: u16,
+        value: u32,
+    },
+}
+
+/// The open operations: one bit for each number, and how many are set.
+struct OpenOperations {
+    bits: Vec<u64>,
+    count: usize,
+}
+
+impl OpenOperations {
+    fn new() -> Self {
+        OpenOperations {
+            bits: vec![0; 1024],
+            count: 0,
+        }
+    }
+
+    fn contains(&self, operation: u16) -> bool {
+        self.bits[usize::from(operation / 64)] >> (operation % 64) & 1 == 1
+    }
+
+    /// Opens an operation that is not open.
+    fn insert(&mut self, operation: u16) {
+        self.bits[usize::from(operation / 64)] |= 1 << (operation % 64);
+        self.count += 1;
+    }
+
+    /// Closes an operation; says whether it was open.
+    fn remove(&mut self, operation: u16) -> bool {
+        let open = self.contains(operation);
+        if open {
+            self.bits[usize::from(operation / 64)] &= !(1 << (operation % 64));
+            self.count -= 1;
+        }
+        open
+    }
+}
+
+/// The whole state of a run.
+pub struct Model {
+    switch: Switch,
+    chain: Chain,
+    waiting: Vec<Packet>,
+    open: OpenOperations,
+    begun: u16,
+}
+
+impl Model {
+    /// Tag 32: an empty store with replicas 1 to n; n outside 1 to 8 gives 2.
+    pub fn start(n: u8) -> Result<Model, Refusal> {
+        if n == 0 || n > REPLICAS {
+            return Err(Refusal::BadReplicaCount);
+        }
+        Ok(Model {
+            switch: Switch::new(1),
+            chain: Chain::new(n),
+            waiting: Vec::with_capacity(FULL),
+            open: OpenOperations::new(),
+            begun: 0,
+        })
+    }
+
+    /// Makes one step. A refused step leaves all unchanged.
+    pub fn step(&mut self, step: Step) -> Answer {
+        match step {
+            Step::Read { object } => self.begin(object, None),
+            Step::Write { object, value } => self.begin(object, Some(value)),
+            Step::Deliver { position, choice } => self.deliver(position, choice),
+            Step::Lose { position } => self.lose(position),
+            Step::Repeat { position } => self.repeat(position),
+            Step::Advance { replica } => self.advance(replica),
+            Step::Replace { switch } => self.replace(switch),
+            Step::Tell { replica } => self.tell(replica),
+            Step::Remove { replica } => self.remove(replica),
+            Step::GiveUp { operation } => self.give_up(operation),
+        }
+    }
+
+    /// Tags 1 and 2; a write has a value. Order 3, 4, 5, 6.
+    fn begin(&mut self, object: u16, value: Option<u32>) -> Answer {
+        if object >= OBJECTS {
+            return Err(Refusal::BadObject);
+        }
+        let operation = self.begun.checked_add(1).ok_or(Refusal::NumbersUsedUp)?;
+        if self.open.count >= FULL {
+            return Err(Refusal::TooManyOpen);
+        }
+        if self.waiting.len() >= FULL {
+            return Err(Refusal::TooManyWaiting);
+        }
+        self.begun = operation;
+        self.open.insert(operation);
+        self.waiting.push(match value {
+            Some(value) => Packet::UnstampedWrite {
+                operation,
+                object,
+                value,
+            },
+            None => Packet::Read { operation, object },
+        });
+        Ok(None)
+    }
+
+    /// Tag 3: the packet leaves the list and has its effect. Order 7, 6.
+    fn deliver(&mut self, position: u16, choice: u8) -> Answer {
+        let position = usize::from(position);
+        let packet = *self.waiting.get(position).ok_or(Refusal::NoPacket)?;
+        if self.waiting.len() >= FULL && self.makes_two(packet) {
+            return Err(Refusal::TooManyWaiting);
+        }
+        self.waiting.remove(position);
+        match packet {
+            Packet::Reply { operation, value } => return Ok(self.finish(operation, value)),
+            Packet::Completion { object, stamp } => self.switch.complete(object, stamp),
+            Packet::StampedWrite { to, write } => self.write_arrives(to, write),
+            other => {
+                let next = self.passed_on(other, choice);
+                self.waiting.extend(next);
+            }
+        }
+        Ok(None)
+    }
+
+    /// Only a write applied where the tail is puts two packets in the place of
+    /// one; every other delivery puts one or none.
+    fn makes_two(&self, packet: Packet) -> bool {
+        let Packet::StampedWrite { to, write } = packet else {
+            return false;
+        };
+        let place = self.chain.accepting(to, write.stamp);
+        place.is_some_and(|place| self.chain.is_tail(place))
+    }
+
+    /// The packet that comes of an unstamped write or a read, if any.
+    fn passed_on(&mut self, packet: Packet, choice: u8) -> Option<Packet> {
+        match packet {
+            Packet::UnstampedWrite {
+                operation,
+                object,
+                value,
+            } => self.stamped(operation, object, value),
+            Packet::Read { operation, object } => Some(self.directed(operation, object, choice)),
+            Packet::DirectRead {
+                to,
+                operation,
+                object,
+                switch,
+                committed,
+            } => {
+                let replica = self.chain.replica(to)?;
+                let held = replica.held(object);
+                let value = held.value;
+                if replica.permits == switch && held.stamp <= committed {
+                    Some(Packet::Reply { operation, value })
+                } else {
+                    Some(self.to_tail(operation, object))
+                }
+            }
+            Packet::NormalRead {
+                to,
+                operation,
+                object,
+            } => {
+                let value = self.chain.replica(to)?.held(object).value;
+                Some(Packet::Reply { operation, value })
+            }
+            _ => None,
+        }
+    }
+
+    /// "Unstamped write, to the switch."
+    fn stamped(&mut self, operation: u16, object: u16, value: u32) -> Option<Packet> {
+        if !self.chain.all_permit(self.switch.number) {
+            return None;
+        }
+        let stamp = self.switch.mark(object)?;
+        Some(Packet::StampedWrite {
+            to: self.chain.head(),
+            write: Write {
+                operation,
+                object,
+                value,
+                stamp,
+            },
+        })
+    }
+
+    /// "Read, to the switch": direct to the replica at place choice mod live,
+    /// or normal to the tail.
+    fn directed(&self, operation: u16, object: u16, choice: u8) -> Packet {
+        if !self.switch.direct_reads || self.switch.is_marked(object) {
+            return self.to_tail(operation, object);
+        }
+        let live = self.chain.live();
+        Packet::DirectRead {
+            to: live[usize::from(choice) % live.len()].name,
+            operation,
+            object,
+            switch: self.switch.number,
+            committed: self.switch.committed,
+        }
+    }
+
+    /// A normal read to the replica that is the tail now.
+    fn to_tail(&self, operation: u16, object: u16) -> Packet {
+        Packet::NormalRead {
+            to: self.chain.tail(),
+            operation,
+            object,
+        }
+    }
+
+    /// "Stamped write, to a replica."
+    fn write_arrives(&mut self, to: u8, write: Write) {
+        if let Some(place) = self.chain.accepting(to, write.stamp) {
+            self.apply(place, write);
+        }
+    }
+
+    /// Applies a write at a place. "The tail, on applying a write, sends a
+    /// reply with the written value, then a completion."
+    fn apply(&mut self, place: usize, write: Write) {
+        if self.chain.apply(place, write) {
+            self.waiting.push(Packet::Reply {
+                operation: write.operation,
+                value: write.value,
+            });
+            self.waiting.push(Packet::Completion {
+                object: write.object,
+                stamp: write.stamp,
+            });
+        }
+    }
+
+    /// "Reply. Finishes the operation if it is open; otherwise ignored."
+    fn finish(&mut self, operation: u16, value: u32) -> Option<Finished> {
+        let open = self.open.remove(operation);
+        open.then_some(Finished { operation, value })
+    }
+
+    /// Tag 4.
+    fn lose(&mut self, position: u16) -> Answer {
+        let position = usize::from(position);
+        if position >= self.waiting.len() {
+            return Err(Refusal::NoPacket);
+        }
+        self.waiting.remove(position);
+        Ok(None)
+    }
+
+    /// Tag 5. Order 7, 8, 6.
+    fn repeat(&mut self, position: u16) -> Answer {
+        let packet = self.waiting.get(usize::from(position));
+        let packet = *packet.ok_or(Refusal::NoPacket)?;
+        if matches!(packet, Packet::UnstampedWrite { .. }) {
+            return Err(Refusal::UnstampedRepeat);
+        }
+        if self.waiting.len() >= FULL {
+            return Err(Refusal::TooManyWaiting);
+        }
+        self.waiting.push(packet);
+        Ok(None)
+    }
+
+    /// Tag 6. Order 9, 10, 6. The head has nothing incoming.
+    fn advance(&mut self, replica: u8) -> Answer {
+        let place = self.chain.place(replica).ok_or(Refusal::NotLive)?;
+        if self.chain.live()[place].incoming.is_empty() {
+            return Err(Refusal::NothingIncoming);
+        }
+        if self.chain.is_tail(place) && self.waiting.len() + 2 > FULL {
+            return Err(Refusal::TooManyWaiting);
+        }
+        if let Some(write) = self.chain.take_oldest(place) {
+            self.apply(place, write);
+        }
+        Ok(None)
+    }
+
+    /// Tag 7.
+    fn replace(&mut self, switch: u16) -> Answer {
+        if switch <= self.switch.number {
+            return Err(Refusal::SwitchNotAbove);
+        }
+        self.switch = Switch::new(switch);
+        Ok(None)
+    }
+
+    /// Tag 8.
+    fn tell(&mut self, replica: u8) -> Answer {
+        let place = self.chain.place(replica).ok_or(Refusal::NotLive)?;
+        self.chain.tell(place, self.switch.number);
+        Ok(None)
+    }
+
+    /// Tag 9. Order 9, 12.
+    fn remove(&mut self, replica: u8) -> Answer {
+        let place = self.chain.place(replica).ok_or(Refusal::NotLive)?;
+        if self.chain.live().len() == 1 {
+            return Err(Refusal::OnlyOneLive);
+        }
+        self.chain.remove(place);
+        Ok(None)
+    }
+
+    /// Tag 10.
+    fn give_up(&mut self, operation: u16) -> Answer {
+        if !self.open.remove(operation) {
+            return Err(Refusal::NotOpen);
+        }
+        Ok(None)
+    }
+}
+
+/// What can be seen of the state.
+impl Model {
+    /// The waiting packets, oldest first.
+    pub fn packets(&self) -> &[Packet] {
+        &self.waiting
+    }
+
+    /// How many packets wait.
+    pub fn waiting(&self) -> usize {
+        self.waiting.len()
+    }
+
+    /// How many marks count.
+    pub fn counting_marks(&self) -> usize {
+        self.switch.counting()
+    }
+
+    /// Value and stamp of an object at a live replica.
+    pub fn held(&self, replica: u8, object: u16) -> Option<Held> {
+        if object >= OBJECTS {
+            return None;
+        }
+        Some(self.chain.replica(replica)?.held(object))
+    }
+
+    /// The live replicas in chain order.
+    pub fn live(&self) -> impl ExactSizeIterator<Item = u8> + '_ {
+        self.chain.live().iter().map(|r| r.name)
+    }
+
+    /// The writes in the link that comes in to a live replica, oldest first.
+    pub fn incoming(&self, replica: u8) -> impl ExactSizeIterator<Item = Write> + '_ {
+        let link = self.chain.replica(replica).map(|r| r.incoming.iter());
+        link.unwrap_or_default().copied()
+    }
+
+    /// The switch number that a live replica permits.
+    pub fn permits(&self, replica: u8) -> Option<u16> {
+        Some(self.chain.replica(replica)?.permits)
+    }
+
+    /// How many writes all links hold.
+    pub fn linked(&self) -> usize {
+        self.chain.linked()
+    }
+
+    /// The present switch's number.
+    pub fn switch_number(&self) -> u16 {
+        self.switch.number
+    }
+
+    /// How many operations are open.
+    pub fn open(&self) -> usize {
+        self.open.count
+    }
+
+    /// Is this operation open?
+    pub fn is_open(&self, operation: u16) -> bool {
+        self.open.contains(operation)
+    }
+
+    /// The last operation number given, 0 if none.
+    pub fn begun(&self) -> u16 {
+        self.begun
+    }
+}
+
+#[cfg(test)]
+mod tests;

@@ -1,0 +1,287 @@
+//! The rules of document 01 at the level of single steps, worked out by hand.
+
+use super::*;
+
+const OK: Answer = Ok(None);
+
+fn model(n: u8) -> Model {
+    Model::start(n).unwrap()
+}
+
+fn no(refusal: Refusal) -> Answer {
+    Err(refusal)
+}
+
+fn done(operation: u16, value: u32) -> Answer {
+    Ok(Some(Finished { operation, value }))
+}
+
+/// Short names for the steps.
+impl Model {
+    fn read(&mut self, object: u16) -> Answer {
+        self.step(Step::Read { object })
+    }
+
+    fn write(&mut self, object: u16, value: u32) -> Answer {
+        self.step(Step::Write { object, value })
+    }
+
+    fn give(&mut self, position: u16) -> Answer {
+        self.step(Step::Deliver {
+            position,
+            choice: 0,
+        })
+    }
+
+    fn give_to(&mut self, position: u16, choice: u8) -> Answer {
+        self.step(Step::Deliver { position, choice })
+    }
+
+    fn again(&mut self, position: u16) -> Answer {
+        self.step(Step::Repeat { position })
+    }
+
+    fn move_on(&mut self, replica: u8) -> Answer {
+        self.step(Step::Advance { replica })
+    }
+
+    /// A write through the switch, delivered to the head.
+    fn write_at_head(&mut self, object: u16, value: u32) {
+        assert_eq!(self.write(object, value), OK);
+        let last = self.waiting() as u16 - 1;
+        assert_eq!(self.give(last), OK);
+        assert_eq!(self.give(last), OK);
+    }
+
+    /// A write through a chain of two, from an empty list to an empty list.
+    fn write_through(&mut self, object: u16, value: u32) {
+        assert_eq!(self.waiting(), 0);
+        self.write_at_head(object, value);
+        assert_eq!(self.move_on(2), OK);
+        assert_eq!(self.give(0), done(self.begun(), value));
+        assert_eq!(self.give(0), OK);
+    }
+
+    fn stamp(&self, replica: u8, object: u16) -> Stamp {
+        self.held(replica, object).unwrap().stamp
+    }
+
+    fn value(&self, replica: u8, object: u16) -> u32 {
+        self.held(replica, object).unwrap().value
+    }
+}
+
+#[test]
+fn p1_stamps_compare_by_switch_number_first() {
+    assert!(Stamp::new(1, 65_535) < Stamp::new(2, 1));
+    assert!(Stamp::new(1, 3) < Stamp::new(1, 4));
+    assert!(Stamp::ZERO < Stamp::new(0, 1));
+}
+
+#[test]
+fn p2_objects() {
+    let mut model = model(1);
+    assert_eq!(model.write(1023, 1), OK);
+    assert_eq!(model.write(1024, 1), no(Refusal::BadObject));
+    assert_eq!(model.read(1024), no(Refusal::BadObject));
+    assert_eq!((model.waiting(), model.begun(), model.open()), (1, 1, 1));
+}
+
+#[test]
+fn p3_starts() {
+    let refused = |n| Model::start(n).err();
+    assert_eq!(refused(0), Some(Refusal::BadReplicaCount));
+    assert_eq!(refused(9), Some(Refusal::BadReplicaCount));
+    assert_eq!(model(1).live().collect::<Vec<_>>(), [1]);
+    assert_eq!(model(8).live().len(), 8);
+    assert_eq!(model(8).permits(8), Some(1));
+    let empty = model(2).held(2, 1023);
+    assert_eq!(empty, Some(Held::default()));
+    assert_eq!(model(2).held(3, 0), None);
+}
+
+#[test]
+fn p6_direct_read_against_the_object_s_stamp() {
+    for (carried, kind) in [(4, "reply"), (3, "normal")] {
+        let mut model = model(2);
+        (1..=3).for_each(|value| model.write_through(5, value));
+        if carried == 4 {
+            model.write_through(5, 4);
+        }
+        assert_eq!(model.read(5), OK);
+        assert_eq!(model.give_to(0, 0), OK);
+        if carried == 3 {
+            model.write_at_head(5, 4);
+        }
+        assert_eq!(model.stamp(1, 5), Stamp::new(1, 4));
+        assert_eq!(model.give(0), OK);
+        let expected = match kind {
+            "reply" => Packet::Reply {
+                operation: 5,
+                value: 4,
+            },
+            _ => Packet::NormalRead {
+                to: 2,
+                operation: 4,
+                object: 5,
+            },
+        };
+        assert_eq!(model.packets(), [expected]);
+    }
+}
+
+#[test]
+fn direct_read_carries_number_and_last_committed() {
+    let mut model = model(2);
+    model.write_through(5, 9);
+    model.write_at_head(6, 1);
+    assert_eq!(model.read(5), OK);
+    assert_eq!(model.give_to(0, 3), OK);
+    let expected = Packet::DirectRead {
+        to: 2,
+        operation: 3,
+        object: 5,
+        switch: 1,
+        committed: Stamp::new(1, 1),
+    };
+    assert_eq!(model.packets(), [expected]);
+}
+
+#[test]
+fn p9_and_p10_with_64_waiting() {
+    let mut model = model(1);
+    model.write_at_head(0, 9);
+    assert_eq!(model.write(1, 1), OK);
+    assert_eq!(model.give(2), OK);
+    assert_eq!(model.write(2, 2), OK);
+    (0..60).for_each(|_| assert_eq!(model.again(0), OK));
+    assert_eq!(model.waiting(), 64);
+    assert_eq!(model.again(0), no(Refusal::TooManyWaiting));
+    assert_eq!(model.again(3), no(Refusal::UnstampedRepeat));
+    assert_eq!(model.again(64), no(Refusal::NoPacket));
+    assert_eq!(model.give(2), no(Refusal::TooManyWaiting));
+    assert_eq!(model.held(1, 1), Some(Held::default()));
+    assert_eq!(model.step(Step::Lose { position: 63 }), OK);
+    assert_eq!(model.give(2), OK);
+    assert_eq!(model.waiting(), 64);
+    assert_eq!(model.stamp(1, 1), Stamp::new(1, 2));
+}
+
+#[test]
+fn p11_choice_by_chain_place() {
+    for (choice, replica) in [(5, 4), (0, 1), (1, 2), (3, 1), (255, 1), (254, 4)] {
+        let mut model = model(4);
+        model.write_at_head(5, 9);
+        (2..=4).for_each(|r| assert_eq!(model.move_on(r), OK));
+        assert_eq!(model.give(1), OK);
+        assert_eq!(model.step(Step::Remove { replica: 3 }), OK);
+        assert_eq!(model.read(5), OK);
+        assert_eq!(model.give_to(1, choice), OK);
+        let Packet::DirectRead { to, .. } = model.packets()[1] else {
+            panic!("not direct: {:?}", model.packets()[1]);
+        };
+        assert_eq!(to, replica);
+    }
+}
+
+#[test]
+fn refusal_4_and_the_last_number() {
+    let mut model = model(1);
+    model.begun = 65_534;
+    assert_eq!(model.read(7), OK);
+    assert_eq!((model.begun(), model.is_open(65_535)), (65_535, true));
+    assert_eq!(model.read(7), no(Refusal::NumbersUsedUp));
+    assert_eq!(model.read(1024), no(Refusal::BadObject));
+    let operation = 65_535;
+    assert_eq!(model.step(Step::GiveUp { operation }), OK);
+    assert_eq!(model.open(), 0);
+    assert_eq!(model.write(7, 1), no(Refusal::NumbersUsedUp));
+}
+
+#[test]
+fn refusal_4_comes_before_5_and_6() {
+    let mut model = model(1);
+    (0..64).for_each(|_| assert_eq!(model.read(7), OK));
+    assert_eq!(model.read(7), no(Refusal::TooManyOpen));
+    model.begun = 65_535;
+    assert_eq!(model.read(7), no(Refusal::NumbersUsedUp));
+}
+
+#[test]
+fn a_write_through_three_replicas() {
+    let mut model = model(3);
+    model.write_at_head(5, 9);
+    assert_eq!(model.value(1, 5), 9);
+    assert_eq!(model.value(2, 5), 0);
+    assert_eq!(model.move_on(3), no(Refusal::NothingIncoming));
+    assert_eq!(model.move_on(2), OK);
+    assert_eq!((model.value(2, 5), model.waiting()), (9, 0));
+    assert_eq!(model.move_on(3), OK);
+    let stamp = Stamp::new(1, 1);
+    let reply = Packet::Reply {
+        operation: 1,
+        value: 9,
+    };
+    let completion = Packet::Completion { object: 5, stamp };
+    assert_eq!(model.packets(), [reply, completion]);
+    assert_eq!(model.move_on(1), no(Refusal::NothingIncoming));
+    assert_eq!(model.move_on(4), no(Refusal::NotLive));
+}
+
+#[test]
+fn replacement_and_permits() {
+    let mut model = model(2);
+    model.write_through(5, 9);
+    assert_eq!(model.write(5, 1), OK);
+    let replace = |switch| Step::Replace { switch };
+    assert_eq!(model.step(replace(1)), no(Refusal::SwitchNotAbove));
+    assert_eq!(model.step(replace(300)), OK);
+    assert_eq!(model.give(0), OK);
+    assert_eq!(model.waiting(), 0, "no permit, so dropped");
+    let tell = |replica| Step::Tell { replica };
+    assert_eq!(model.step(tell(1)), OK);
+    assert_eq!(model.step(tell(3)), no(Refusal::NotLive));
+    assert_eq!((model.permits(1), model.permits(2)), (Some(300), Some(1)));
+    assert_eq!(model.step(tell(2)), OK);
+    model.write_at_head(5, 2);
+    assert_eq!(model.stamp(1, 5), Stamp::new(300, 1));
+    assert_eq!(model.stamp(2, 5), Stamp::new(1, 1));
+}
+
+#[test]
+fn a_refused_step_changes_nothing() {
+    let mut model = model(2);
+    model.write_at_head(5, 9);
+    (0..63).for_each(|_| assert_eq!(model.read(6), OK));
+    let before = model.packets().to_vec();
+    assert_eq!(model.move_on(2), no(Refusal::TooManyWaiting));
+    assert_eq!(model.packets(), before);
+    assert_eq!(model.incoming(2).len(), 1);
+    assert_eq!(model.value(2, 5), 0);
+    assert_eq!(model.step(Step::Lose { position: 62 }), OK);
+    assert_eq!(model.move_on(2), OK);
+    assert_eq!((model.waiting(), model.value(2, 5)), (64, 9));
+}
+
+#[test]
+fn removal_orders_nine_before_twelve() {
+    let mut model = model(2);
+    let remove = |replica| Step::Remove { replica };
+    assert_eq!(model.step(remove(3)), no(Refusal::NotLive));
+    assert_eq!(model.step(remove(1)), OK);
+    assert_eq!(model.step(remove(1)), no(Refusal::NotLive));
+    assert_eq!(model.step(remove(2)), no(Refusal::OnlyOneLive));
+    assert_eq!(model.live().collect::<Vec<_>>(), [2]);
+}
+
+#[test]
+fn a_reply_finishes_once() {
+    let mut model = model(1);
+    assert_eq!(model.read(3), OK);
+    assert_eq!(model.again(0), OK);
+    (0..4).for_each(|_| assert_eq!(model.give(0), OK));
+    assert_eq!(model.give(0), done(1, 0));
+    assert_eq!(model.give(0), OK);
+    let operation = 1;
+    assert_eq!(model.step(Step::GiveUp { operation }), no(Refusal::NotOpen));
+}

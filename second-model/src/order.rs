@@ -1,0 +1,262 @@
+//! Looks for an order of the operations of a run (document 01, "The run that
+//! demand 3 speaks of") by trying all of them, after Wing and Gong.
+
+use crate::model::Step;
+use crate::records::{Reader, Record};
+use std::collections::HashSet;
+
+/// An operation as the steps and their answers show it. Begin and finish are
+/// record numbers; `written` is a write's value and none for a read.
+#[derive(Clone, Copy, Debug, PartialEq, Eq)]
+pub struct Operation {
+    pub object: u16,
+    pub written: Option<u32>,
+    pub begun: usize,
+    pub finished: Option<(usize, u32)>,
+}
+
+/// The operations of a run, read from its records and the lines printed for
+/// them. Nothing if a line is not of the printed form or names no operation.
+pub fn history(input: &[u8], lines: &[u8]) -> Option<Vec<Operation>> {
+    let lines = std::str::from_utf8(lines).ok()?;
+    let mut operations = Vec::new();
+    for ((number, line), record) in (1..).zip(lines.lines()).zip(Reader::new(input)) {
+        let fields: Vec<&str> = line.split(' ').collect();
+        if fields.get(1) != Some(&"ok") {
+            continue;
+        }
+        match record {
+            Ok(Record::Step(Step::Read { object })) => {
+                operations.push(begun(number, object, None));
+            }
+            Ok(Record::Step(Step::Write { object, value })) => {
+                operations.push(begun(number, object, Some(value)));
+            }
+            _ => {}
+        }
+        if *fields.get(4)? != "-" {
+            let operation: usize = fields[4].parse().ok()?;
+            let value = fields.get(5)?.parse().ok()?;
+            let named = operations.get_mut(operation.checked_sub(1)?)?;
+            named.finished = Some((number, value));
+        }
+    }
+    Some(operations)
+}
+
+/// "The k-th accepted begin starts operation k."
+fn begun(number: usize, object: u16, written: Option<u32>) -> Operation {
+    Operation {
+        object,
+        written,
+        begun: number,
+        finished: None,
+    }
+}
+
+/// A search under way: which operations are in the order so far (a bit each),
+/// the order, the last write of it per operation's object, and the points that
+/// are known to lead nowhere.
+struct Search<'a> {
+    operations: &'a [Operation],
+    taken: u64,
+    order: Vec<usize>,
+    dead: HashSet<(u64, Vec<Option<usize>>)>,
+}
+
+/// An order (operation numbers from 1) that holds every finished operation and
+/// perhaps unfinished ones, in which an operation that finished before another
+/// began is earlier, and each finished read gives the value of the last
+/// earlier write of its object, 0 if there is none.
+pub fn find_order(operations: &[Operation]) -> Option<Vec<usize>> {
+    assert!(operations.len() <= 64, "the search is for small runs");
+    let honest = |o: &Operation| match (o.written, o.finished) {
+        (Some(written), Some((_, value))) => written == value,
+        _ => true,
+    };
+    if !operations.iter().all(honest) {
+        return None;
+    }
+    let mut search = Search {
+        operations,
+        taken: 0,
+        order: Vec::new(),
+        dead: HashSet::new(),
+    };
+    search.go_on().then_some(search.order)
+}
+
+impl Search<'_> {
+    /// Completes the order if that can be done.
+    fn go_on(&mut self) -> bool {
+        if self.left().all(|(_, o)| o.finished.is_none()) {
+            return true;
+        }
+        let point = (self.taken, self.last_writes());
+        if self.dead.contains(&point) {
+            return false;
+        }
+        for index in 0..self.operations.len() {
+            if self.may_be_next(index) {
+                self.taken |= 1 << index;
+                self.order.push(index + 1);
+                if self.go_on() {
+                    return true;
+                }
+                self.order.pop();
+                self.taken &= !(1 << index);
+            }
+        }
+        self.dead.insert(point);
+        false
+    }
+
+    /// The operations that are not yet in the order.
+    fn left(&self) -> impl Iterator<Item = (usize, &Operation)> {
+        let taken = self.taken;
+        let all = self.operations.iter().enumerate();
+        all.filter(move |(index, _)| taken >> index & 1 == 0)
+    }
+
+    /// Not yet taken, nothing left that finished before it began, and if it is
+    /// a read, finished and with the value that stands now.
+    fn may_be_next(&self, index: usize) -> bool {
+        let next = &self.operations[index];
+        let before = |o: &Operation| o.finished.is_some_and(|(at, _)| at < next.begun);
+        if self.taken >> index & 1 == 1 || self.left().any(|(_, o)| before(o)) {
+            return false;
+        }
+        match (next.written, next.finished) {
+            (Some(_), _) => true,
+            (None, Some((_, value))) => value == self.standing(next.object),
+            (None, None) => false,
+        }
+    }
+
+    /// The last write of an object in the order so far.
+    fn last_write(&self, object: u16) -> Option<usize> {
+        let ours = |&&number: &&usize| {
+            let operation = &self.operations[number - 1];
+            operation.object == object && operation.written.is_some()
+        };
+        self.order.iter().rev().find(ours).copied()
+    }
+
+    /// The last write for each operation's object.
+    fn last_writes(&self) -> Vec<Option<usize>> {
+        let objects = self.operations.iter().map(|o| o.object);
+        objects.map(|object| self.last_write(object)).collect()
+    }
+
+    /// The value of an object after the order so far.
+    fn standing(&self, object: u16) -> u32 {
+        let write = self.last_write(object);
+        let value = write.and_then(|number| self.operations[number - 1].written);
+        value.unwrap_or(0)
+    }
+}
+
+#[cfg(test)]
+mod tests {
+    use super::*;
+    use crate::run::output;
+    use crate::words::file;
+
+    fn write(object: u16, value: u32, begun: usize, at: Option<usize>) -> Operation {
+        Operation {
+            object,
+            written: Some(value),
+            begun,
+            finished: at.map(|at| (at, value)),
+        }
+    }
+
+    fn read(object: u16, value: u32, begun: usize, at: usize) -> Operation {
+        Operation {
+            object,
+            written: None,
+            begun,
+            finished: Some((at, value)),
+        }
+    }
+
+    #[test]
+    fn nothing_at_all_has_an_order() {
+        assert_eq!(find_order(&[]), Some(vec![]));
+    }
+
+    #[test]
+    fn a_stale_read_has_none() {
+        let old = [write(5, 9, 2, Some(6)), read(5, 0, 8, 11)];
+        assert_eq!(find_order(&old), None);
+        let new = [write(5, 9, 2, Some(6)), read(5, 9, 8, 11)];
+        assert_eq!(find_order(&new), Some(vec![1, 2]));
+        let between = [write(5, 9, 2, Some(9)), read(5, 0, 8, 11)];
+        assert_eq!(find_order(&between), Some(vec![2, 1]));
+    }
+
+    #[test]
+    fn two_reads_may_not_see_new_then_old() {
+        let open = write(1, 7, 2, None);
+        let back = [open, read(1, 7, 3, 4), read(1, 0, 5, 6)];
+        assert_eq!(find_order(&back), None);
+        let forth = [open, read(1, 0, 3, 4), read(1, 7, 5, 6)];
+        assert_eq!(find_order(&forth), Some(vec![2, 1, 3]));
+    }
+
+    #[test]
+    fn an_unfinished_write_need_not_take_effect() {
+        let lost = [write(1, 7, 2, None), read(1, 0, 3, 4), read(1, 0, 5, 6)];
+        assert_eq!(find_order(&lost), Some(vec![2, 3]));
+    }
+
+    #[test]
+    fn a_write_has_no_effect_before_its_begin() {
+        let early = [read(1, 7, 2, 3), write(1, 7, 4, Some(5))];
+        assert_eq!(find_order(&early), None);
+        let unfinished = [read(1, 7, 2, 3), write(1, 7, 4, None)];
+        assert_eq!(find_order(&unfinished), None);
+    }
+
+    #[test]
+    fn a_read_of_a_value_never_written_has_none() {
+        assert_eq!(find_order(&[read(3, 1, 2, 3)]), None);
+        let other = [write(4, 1, 2, Some(3)), read(3, 1, 4, 5)];
+        assert_eq!(find_order(&other), None);
+    }
+
+    #[test]
+    fn a_write_must_finish_with_its_own_value() {
+        let mut wrong = write(3, 1, 2, Some(3));
+        wrong.finished = Some((3, 2));
+        assert_eq!(find_order(&[wrong]), None);
+    }
+
+    #[test]
+    fn two_readers_must_agree_on_two_writes() {
+        let writes = [write(1, 7, 2, Some(90)), write(1, 8, 3, Some(91))];
+        let agree = [read(1, 7, 4, 5), read(1, 8, 6, 7), read(1, 8, 8, 9)];
+        assert!(find_order(&[&writes[..], &agree[..]].concat()).is_some());
+        let differ = [read(1, 7, 4, 5), read(1, 8, 6, 7), read(1, 7, 8, 9)];
+        assert_eq!(find_order(&[&writes[..], &differ[..]].concat()), None);
+    }
+
+    #[test]
+    fn the_history_of_the_listing() {
+        let input = file(
+            "start 2; write 5 9; 2 * deliver 0; advance 2; 2 * deliver 0; \
+             read 5; read 1024; 3 * deliver 0; give up 2",
+        );
+        let operations = history(&input, &output(&input)).unwrap();
+        assert_eq!(operations.len(), 2);
+        assert_eq!(operations[0], write(5, 9, 2, Some(6)));
+        assert_eq!(operations[1], read(5, 9, 8, 12));
+    }
+
+    #[test]
+    fn lines_of_another_form_give_no_history() {
+        let input = file("start 2; write 5 9");
+        assert_eq!(history(&input, b"1 ok 0 0 - -\n2 ok\n"), None);
+        assert_eq!(history(&input, b"1 ok 0 0 - -\n2 ok 1 0 7 9\n"), None);
+    }
+}

@@ -1,0 +1,163 @@
+//! What the run program prints (document 01, section of that name).
+
+use crate::model::{Answer, Finished, Model, Refusal};
+use crate::records::{Reader, Record};
+
+/// "Input above 65,536 bytes" is turned down whole.
+pub const INPUT_LONGEST: usize = 65_536;
+
+/// What the line of an accepted record says.
+#[derive(Clone, Copy, Debug, PartialEq, Eq)]
+pub struct Accepted {
+    pub waiting: usize,
+    pub marks: usize,
+    pub finished: Option<Finished>,
+}
+
+/// What the line of a record says.
+pub type Outcome = Result<Accepted, Refusal>;
+
+/// Runs an input and shows each line's number and outcome.
+pub fn walk(input: &[u8], mut show: impl FnMut(usize, Outcome)) {
+    if input.len() > INPUT_LONGEST {
+        return show(0, Err(Refusal::InputTooLong));
+    }
+    let mut reader = Reader::new(input);
+    let mut model = match started(&mut reader) {
+        Ok(model) => model,
+        Err(refusal) => return show(1, Err(refusal)),
+    };
+    show(1, outcome(&model, Ok(None)));
+    for (number, record) in (2..).zip(reader) {
+        let Ok(Record::Step(step)) = record else {
+            return show(number, Err(Refusal::BadRecord));
+        };
+        let answer = model.step(step);
+        show(number, outcome(&model, answer));
+    }
+}
+
+/// The first record must be a start, and its n from 1 to 8.
+fn started(reader: &mut Reader) -> Result<Model, Refusal> {
+    match reader.next() {
+        Some(Ok(Record::Start { replicas })) => Model::start(replicas),
+        _ => Err(Refusal::BadRecord),
+    }
+}
+
+/// An answer with the counts that its line shows.
+fn outcome(model: &Model, answer: Answer) -> Outcome {
+    answer.map(|finished| Accepted {
+        waiting: model.waiting(),
+        marks: model.counting_marks(),
+        finished,
+    })
+}
+
+/// Everything the run program prints for an input.
+pub fn output(input: &[u8]) -> Vec<u8> {
+    let mut out = Vec::with_capacity(64 + 4 * input.len());
+    walk(input, |number, outcome| {
+        push_line(&mut out, number, outcome);
+    });
+    out
+}
+
+/// One line: number, then `ok` and its four fields, or `no` and the refusal.
+fn push_line(out: &mut Vec<u8>, number: usize, outcome: Outcome) {
+    push_number(out, number);
+    match outcome {
+        Ok(accepted) => {
+            out.extend_from_slice(b" ok ");
+            push_number(out, accepted.waiting);
+            out.push(b' ');
+            push_number(out, accepted.marks);
+            push_finished(out, accepted.finished);
+        }
+        Err(refusal) => {
+            out.extend_from_slice(b" no ");
+            push_number(out, usize::from(refusal.number()));
+        }
+    }
+    out.push(b'\n');
+}
+
+/// "Operation and value just finished, or `- -`", with a space before each.
+fn push_finished(out: &mut Vec<u8>, finished: Option<Finished>) {
+    let Some(finished) = finished else {
+        return out.extend_from_slice(b" - -");
+    };
+    out.push(b' ');
+    push_number(out, usize::from(finished.operation));
+    out.push(b' ');
+    push_number(out, finished.value as usize);
+}
+
+/// A number in base ten.
+fn push_number(out: &mut Vec<u8>, number: usize) {
+    let mut digits = [0; 20];
+    let mut first = digits.len();
+    let mut rest = number;
+    loop {
+        first -= 1;
+        digits[first] = b'0' + (rest % 10) as u8;
+        rest /= 10;
+        if rest == 0 {
+            break;
+        }
+    }
+    out.extend_from_slice(&digits[first..]);
+}
+
+#[cfg(test)]
+mod tests {
+    use super::*;
+    use crate::words::file;
+
+    fn text(input: &[u8]) -> String {
+        String::from_utf8(output(input)).unwrap()
+    }
+
+    #[test]
+    fn the_listing_of_document_01() {
+        let input = file(
+            "start 2; write 5 9; 2 * deliver 0; advance 2; 2 * deliver 0; \
+             read 5; 3 * deliver 0; give up 2",
+        );
+        let listing = "1 ok 0 0 - -\n2 ok 1 0 - -\n3 ok 1 1 - -\n4 ok 0 1 - -\n\
+                       5 ok 2 1 - -\n6 ok 1 1 1 9\n7 ok 0 0 - -\n8 ok 1 0 - -\n\
+                       9 ok 1 0 - -\n10 ok 1 0 - -\n11 ok 0 0 2 9\n12 no 13\n";
+        assert_eq!(text(&input), listing);
+    }
+
+    #[test]
+    fn ends_of_a_run() {
+        assert_eq!(text(&[]), "1 no 1\n");
+        assert_eq!(text(&[32]), "1 no 1\n");
+        assert_eq!(text(&[32, 0, 1]), "1 no 1\n");
+        assert_eq!(text(&[32, 0, 1, 2]), "1 ok 0 0 - -\n");
+        assert_eq!(text(&[32, 0, 1, 0]), "1 no 2\n");
+        assert_eq!(text(&[32, 0, 1, 9, 1]), "1 no 2\n");
+        assert_eq!(text(&[32, 0, 1, 8, 1]), "1 ok 0 0 - -\n2 no 1\n");
+        let twice = [32, 0, 1, 1, 32, 0, 1, 9];
+        assert_eq!(text(&twice), "1 ok 0 0 - -\n2 no 1\n");
+    }
+
+    #[test]
+    fn length_of_the_input() {
+        let mut input = vec![0; INPUT_LONGEST];
+        assert_eq!(text(&input), "1 no 1\n");
+        input.push(0);
+        assert_eq!(text(&input), "0 no 14\n");
+    }
+
+    #[test]
+    fn numbers_in_base_ten() {
+        let mut out = Vec::new();
+        for number in [0, 7, 10, 65_535, 4_294_967_295] {
+            push_number(&mut out, number);
+            out.push(b' ');
+        }
+        assert_eq!(out, b"0 7 10 65535 4294967295 ");
+    }
+}

@@ -1,0 +1,148 @@
+//! Record files in words: steps with `;` between them, such as
+//! `start 2; write 5 9; 2 * deliver 0`, for examples and for reports.
+
+use crate::model::Step;
+use crate::records::{append, read, Record};
+
+/// The record file that some words say. `N * step` and `N * (step; step)` are
+/// done N times, `deliver P` has choice 0, `bytes B ...` are raw bytes, and
+/// `fill L` puts zeros up to length L.
+///
+/// Panics if the words make no sense: they are written in this program.
+pub fn file(words: &str) -> Vec<u8> {
+    let mut file = Vec::new();
+    add_all(words, &mut file);
+    file
+}
+
+/// Adds what some words say to a file.
+fn add_all(words: &str, file: &mut Vec<u8>) {
+    let mut depth = 0;
+    let ends = words.split(|c| {
+        depth += i32::from(c == '(') - i32::from(c == ')');
+        c == ';' && depth == 0
+    });
+    for phrase in ends.map(str::trim).filter(|p| !p.is_empty()) {
+        match phrase.split_once('*') {
+            Some((times, rest)) => {
+                let rest = rest.trim().trim_start_matches('(').trim_end_matches(')');
+                (0..number(times.trim())).for_each(|_| add_all(rest, file));
+            }
+            None => add(phrase, file),
+        }
+    }
+}
+
+/// Adds one phrase to a file.
+fn add(phrase: &str, file: &mut Vec<u8>) {
+    if let Some(bytes) = phrase.strip_prefix("bytes ") {
+        file.extend(bytes.split(' ').map(|b| number(b) as u8));
+    } else if let Some(length) = phrase.strip_prefix("fill ") {
+        file.resize(number(length) as usize, 0);
+    } else {
+        append(record(phrase), file);
+    }
+}
+
+fn number(word: &str) -> u32 {
+    word.parse()
+        .unwrap_or_else(|_| panic!("no number: {word:?}"))
+}
+
+/// The record that one phrase says.
+fn record(phrase: &str) -> Record {
+    let phrase = phrase.replace("give up", "give-up");
+    let mut words = phrase.split(' ');
+    let verb = words.next().unwrap_or_default();
+    let fields: Vec<u32> = words.map(number).collect();
+    let step = match (verb, fields.as_slice()) {
+        ("start", &[n]) => return Record::Start { replicas: n as u8 },
+        ("write", &[object, value]) => Step::Write {
+            object: object as u16,
+            value,
+        },
+        ("deliver", &[position, choice]) => Step::Deliver {
+            position: position as u16,
+            choice: choice as u8,
+        },
+        (verb, &[field]) => with_one_field(verb, field),
+        _ => panic!("no step: {phrase:?}"),
+    };
+    Record::Step(step)
+}
+
+/// The steps that have one field, or whose other field is left out.
+fn with_one_field(verb: &str, field: u32) -> Step {
+    let (byte, pair) = (field as u8, field as u16);
+    match verb {
+        "read" => Step::Read { object: pair },
+        "deliver" => Step::Deliver {
+            position: pair,
+            choice: 0,
+        },
+        "lose" => Step::Lose { position: pair },
+        "repeat" => Step::Repeat { position: pair },
+        "advance" => Step::Advance { replica: byte },
+        "replace" => Step::Replace { switch: pair },
+        "tell" => Step::Tell { replica: byte },
+        "remove" => Step::Remove { replica: byte },
+        "give-up" => Step::GiveUp { operation: pair },
+        _ => panic!("no step: {verb:?}"),
+    }
+}
+
+/// One piece of a record file in words.
+pub fn describe(piece: &[u8]) -> String {
+    let step = match read(piece) {
+        Some((Record::Start { replicas }, _)) => return format!("start {replicas}"),
+        Some((Record::Step(step), _)) => step,
+        None => {
+            let bytes: Vec<String> = piece.iter().map(u8::to_string).collect();
+            return format!("bytes {}", bytes.join(" "));
+        }
+    };
+    match step {
+        Step::Read { object } => format!("read {object}"),
+        Step::Write { object, value } => format!("write {object} {value}"),
+        Step::Deliver { position, choice } => format!("deliver {position} {choice}"),
+        Step::Lose { position } => format!("lose {position}"),
+        Step::Repeat { position } => format!("repeat {position}"),
+        Step::Advance { replica } => format!("advance {replica}"),
+        Step::Replace { switch } => format!("replace {switch}"),
+        Step::Tell { replica } => format!("tell {replica}"),
+        Step::Remove { replica } => format!("remove {replica}"),
+        Step::GiveUp { operation } => format!("give up {operation}"),
+    }
+}
+
+#[cfg(test)]
+mod tests {
+    use super::*;
+    use crate::records::pieces;
+
+    #[test]
+    fn words_make_bytes() {
+        let made = file("start 2; 2 * deliver 1 5; give up 258; bytes 7 255");
+        let expected = [
+            32, 0, 1, 2, 3, 0, 3, 0, 1, 5, 3, 0, 3, 0, 1, 5, 10, 0, 2, 1, 2, 7, 255,
+        ];
+        assert_eq!(made, expected);
+    }
+
+    #[test]
+    fn groups_and_filling() {
+        let made = file("start 1; 2 * (tell 1; advance 1); fill 25");
+        let pair = [8, 0, 1, 1, 6, 0, 1, 1];
+        let expected = [&[32, 0, 1, 1][..], &pair, &pair, &[0; 5]].concat();
+        assert_eq!(made, expected);
+    }
+
+    #[test]
+    fn describing_and_making_are_inverse() {
+        let words = "start 3; read 1; write 2 3; deliver 4 5; lose 6; repeat 7; \
+                     advance 8; replace 9; tell 10; remove 11; give up 12; bytes 1 2";
+        let made = file(words);
+        let told: Vec<String> = pieces(&made).into_iter().map(describe).collect();
+        assert_eq!(told.join("; "), words);
+    }
+}
