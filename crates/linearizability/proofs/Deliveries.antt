@@ -96,7 +96,7 @@ module _ {m : Machine} {h : History} {es : List Entry} (g : Good m h es) (at cho
   rest = front at (m .waiting) ++ back at (m .waiting)
 
   most : held (m .waiting) ≤ 64
-  most = waiting.held-most (m .waiting) (g .list-sized)
+  most = waiting.held-most (m .waiting)
 
   whole : Core h es (g .issued) (g .log) (g .n) (front at (m .waiting) ++ msg ∷ back at (m .waiting)) (m .state .switch .committed)
   whole = subst (λ (l : List Message). Core h es (g .issued) (g .log) (g .n) l (m .state .switch .committed)) split (g .core)

@@ -9,6 +9,7 @@ use lib.Dec.{eqb, leb}
 use lib.ListN.{length, getD, take, drop}
 use lib.Seq.{split-at}
 use borrow.Author.Tests.{leb-false, le-ltb}
+use Rattle.limits.specs as limits
 use Rattle.history.specs.History.{History}
 use Rattle.history.proofs.Tests.{by-test}
 use Rattle.history.proofs.Entries.{Entry}
@@ -22,8 +23,7 @@ use Rattle.replicas.specs.Replicas.{world, accepts, pending, answersDirect, lin
 use Rattle.lists.specs.{without}
 use Rattle.waiting.specs.declared.Packet.{Packet}
 use Rattle.waiting.specs.declared.Edit.{Edit}
-use Rattle.waiting.specs.declared.WaitingList.{WaitingList}
-use Rattle.waiting.specs.Waiting.{blank, waits, held, lookAt, takenOut, putLast, added, afterTaking, edited}
+use Rattle.waiting.specs.Waiting.{WaitingList, blank, waits, places, held, lookAt, takenOut, putLast, added, afterTaking, edited}
 use Rattle.waiting.proofs.Laws as waiting
 use Rattle.protocol.specs.declared.Decision.{Decision}
 use Rattle.protocol.specs.declared.Message.{Message}
@@ -70,9 +70,9 @@ unstamped-append (p ∷ l) r = omega (arith, unstamped-append l r)
 -- one packet more, if there is room for it
 unstamped-put : (w : WaitingList) (p : Packet) → unstampedIn (waits (putLast w p)) ≤ unstampedIn (waits w) + unstampedOne (messageOf p)
 unfolding putLast
-unstamped-put w p = elim (decLt (held w) (length (w .packets))) [
+unstamped-put w p = elim (decLt (held w) (places w)) [
   | yes h ↦ omega (arith, ap unstampedIn (waiting.waits-put w p h), unstamped-append (waits w) (p ∷ []))
-  | no h ↦ rw (le-ltb (held w) (length (w .packets)) (omega arith)) (omega arith)
+  | no h ↦ rw (le-ltb (held w) (places w) (omega arith)) (omega arith)
 ]
 
 -- one packet less, if there is one at the position
@@ -114,7 +114,7 @@ unstamped-edited w e = go (leb 1 (e .add)) (leb 2 (e .add)) (afterTaking w e) (l
 
 -- the sizes and the numbers that every step keeps: each stamp that the switch gave and each unstamped write that waits has an operation of its own
 pub record Counted (m : Machine) : Type 0 where
-  pub places : waiting.Sized (m .waiting)
+  pub exact : waiting.Exact (m .waiting)
   pub cells : operations.Sized (m .opens)
   pub numbers : m .state .last ≤ 65535
   pub counts : m .state .switch .counter + unstamped (messages (m .waiting)) ≤ m .state .last
@@ -149,7 +149,7 @@ module _ {m : Machine} (c : Counted m) where
   -- the counter and the unstamped writes grow by no more than the operation numbers
   moves : {s : State} {store opens : List ℕ} (e : Edit) → operations.Sized opens → s .last ≤ 65535
       → s .switch .counter + unstampedIn (added e) + m .state .last ≤ m .state .switch .counter + takenOne (m .waiting) e + s .last → Counted (machine s store opens (edited (m .waiting) e))
-  moves e q n u = record { places = waiting.sized-edited (m .waiting) e (c .places); cells = q; numbers = n; counts = omega (arith, c .counts, unstamped-edited (m .waiting) e) }
+  moves e q n u = record { exact = waiting.exact-edited (m .waiting) e (c .exact); cells = q; numbers = n; counts = omega (arith, c .counts, unstamped-edited (m .waiting) e) }
 
   -- the switch and the open operations stay, and no unstamped write comes
   stays : {chain : Chain} {store : List ℕ} (e : Edit) → unstampedIn (added e) ≡ 0 → Counted (machine (withChain (m .state) chain) store (m .opens) (edited (m .waiting) e))
@@ -217,14 +217,14 @@ abbrev pub reached : Machine → List Step → Machine
 reached m [] = m
 reached m (x ∷ xs) = reached (after m x) xs
 
-abbrev pub machineOf : ℕ → List Step → Machine
-machineOf n xs = reached (started n) xs
+abbrev pub machineOf : ℕ → List Packet → List Step → Machine
+machineOf n row xs = reached (started n row) xs
 
 -- the start
-pub counted-start : (n : ℕ) → Counted (started n)
+pub counted-start : (n : ℕ) (row : List Packet) → Counted (started n row)
 unfolding started startState
-counted-start n =
-    record { places = waiting.sized-none; cells = operations.sized-none; numbers = omega arith; counts = rw (new-counter 1, waiting.waits-none) (omega arith) }
+counted-start n row =
+    record { exact = waiting.exact-none row; cells = operations.sized-none; numbers = omega arith; counts = rw (new-counter 1, waiting.waits-none row) (omega arith) }
 
 -- every run keeps both invariants
 pub counted-reached : {m : Machine} → Counted m → (xs : List Step) → Counted (reached m xs)
@@ -235,40 +235,43 @@ pub good-reached : {m : Machine} {h : History} {es : List Entry} → Good m h es
 good-reached g [] = g
 good-reached g (x ∷ xs) = good-reached (good-after g x) xs
 
--- FOR EVERY NUMBER OF REPLICAS FROM 1 TO 8 AND EVERY LIST OF STEPS, refused ones included
-module _ (n : ℕ) (low : 1 ≤ n) (high : n ≤ 8) (xs : List Step) where
+-- FOR EVERY NUMBER OF REPLICAS FROM 1 TO 8, EVERY LENT ROW OF 64 PLACES OR MORE AND EVERY LIST OF STEPS, refused ones included
+module _ (n : ℕ) (low : 1 ≤ n) (high : n ≤ 8) (row : List Packet) (long : limits.waiting ≤ length row) (xs : List Step) where
   -- both invariants
-  counted : Counted (machineOf n xs)
-  counted = counted-reached (counted-start n) xs
+  counted : Counted (machineOf n row xs)
+  counted = counted-reached (counted-start n row) xs
 
-  good : Good (machineOf n xs) (historyOf n xs) (orderFrom (started n) [] [] xs)
-  good = good-reached (good-start n low high) xs
+  good : Good (machineOf n row xs) (historyOf n row xs) (orderFrom (started n row) [] [] xs)
+  good = good-reached (good-start n low high row long) xs
 
-  -- 'at most 64 packets'
-  pub waiting-within : held (machineOf n xs .waiting) ≤ 64
-  waiting-within = waiting.held-most (machineOf n xs .waiting) (counted .places)
+  -- 'at most 64 packets', and the count that a step hands back is how many wait
+  pub waiting-within : held (machineOf n row xs .waiting) ≤ 64
+  waiting-within = waiting.held-most (machineOf n row xs .waiting)
+
+  pub count-is : machineOf n row xs .waiting .count ≡ held (machineOf n row xs .waiting)
+  count-is = waiting.exact-held (machineOf n row xs .waiting) (counted .exact)
 
   -- 'All links together hold at most 64 writes'
-  pub linked-within : linkedWrites (machineOf n xs .state .chain) ≤ 64
+  pub linked-within : linkedWrites (machineOf n row xs .state .chain) ≤ 64
   linked-within = omega (arith, linked-is (good .shown), good .shown .room)
 
   -- 'at most 64 are open': there is a cell for each
-  pub open-cells : length (machineOf n xs .opens) ≡ 64
+  pub open-cells : length (machineOf n row xs .opens) ≡ 64
   open-cells = counted .cells
 
   -- 'Operations are numbered from 1 to 65,535'
-  pub operations-within : machineOf n xs .state .last ≤ 65535
+  pub operations-within : machineOf n row xs .state .last ≤ 65535
   operations-within = counted .numbers
 
   -- the counter and the unstamped writes that wait are at most as many as the operations
-  pub counter-within : machineOf n xs .state .switch .counter + unstamped (messages (machineOf n xs .waiting)) ≤ machineOf n xs .state .last
+  pub counter-within : machineOf n row xs .state .switch .counter + unstamped (messages (machineOf n row xs .waiting)) ≤ machineOf n row xs .state .last
   counter-within = counted .counts
 
   -- so while an unstamped write waits at any position, the counter is not at its last number: no run comes to the rule for that
-  pub counter-never-out : (at o x v : ℕ) → messageOf (lookAt (machineOf n xs .waiting) at) ≡ UnstampedWrite o x v → machineOf n xs .state .switch .counter < 65535
-  counter-never-out at o x v e = omega (arith, operations-within, counter-within, unstamped-taken (machineOf n xs .waiting) at, ap unstampedOne e)
+  pub counter-never-out : (at o x v : ℕ) → messageOf (lookAt (machineOf n row xs .waiting) at) ≡ UnstampedWrite o x v → machineOf n row xs .state .switch .counter < 65535
+  counter-never-out at o x v e = omega (arith, operations-within, counter-within, unstamped-taken (machineOf n row xs .waiting) at, ap unstampedOne e)
 
   -- a live replica has applied no more writes than there are operations: the test of the log's last position turns no write down in a run
-  pub positions-within : (r : ℕ) → isLive (machineOf n xs .state .chain) r ≡ true → appliedBy (machineOf n xs .state .chain) r ≤ 65535
+  pub positions-within : (r : ℕ) → isLive (machineOf n row xs .state .chain) r ≡ true → appliedBy (machineOf n row xs .state .chain) r ≤ 65535
   positions-within r live =
       omega (arith, operations-within, applied-between (good .shown) r live .1, log-bounded (good .core .visible) (good .books .bounded), good .books .numbered)

@@ -2,6 +2,8 @@
 use mathlib.Core.Path.{_≡_, refl, sym, _∙_, subst}
 use mathlib.Core.List.{List, [], _∷_}
 use Prim.Native.Nat.{ℕ}
+use lib.ListN.{replicate}
+use Rattle.limits.specs as limits
 use Rattle.history.specs.History.{History, reads, writes, begun, finished, Finished}
 use Rattle.history.proofs.Lists.{here, there}
 use Rattle.protocol.specs.declared.Step.{Step}
@@ -10,7 +12,8 @@ use Rattle.protocol.specs.Messages.{packetOf, messageOf, isUnstamped}
 use Rattle.protocol.specs.Decisions.{refusing, dropping, passing, overfull}
 use Rattle.protocol.specs.Delivery.{unstampedWrite, switchRead, stampedWrite, directRead, normalRead, completion, reply, deliveredMessage}
 use Rattle.protocol.specs.Steps.{startState, asking, begun as beginStep, delivered, advancing, removing, givenUp, positionOf, decided, answerTo, after, started}
-use Rattle.waiting.specs.Waiting.{waits, held, noneWait, lookAt, takenOut, putLast, added, afterTaking, edited}
+use Rattle.waiting.specs.declared.Packet.{Packet}
+use Rattle.waiting.specs.Waiting.{blank, placesIn, heldIn, waits, noneWait, lookAt, takenOut, putLast, added, afterTaking, edited}
 use Rattle.lists.specs.{moves, without, indexOf}
 use Rattle.operations.specs.{noneOpen, isOpen, hasRoom, opening, kept, closing}
 use Rattle.stamp.specs.Stamps.{stampOf, numberOf, counterOf, isAbove, largerOf}
@@ -23,6 +26,10 @@ use Rattle.linearizability.specs.Run.{historyOf}
 use Rattle.linearizability.proofs.Members.{has}
 use Rattle.linearizability.proofs.Order.{objectsOf, finishOrder}
 use Rattle.linearizability.proofs.OneOrder.{orderOf}
+
+-- the lent places
+abbrev row : List Packet
+row = replicate limits.waiting blank
 
 abbrev pub first : Step
 first = Deliver 0 0
@@ -40,19 +47,19 @@ abbrev pub overtaking-run : List Step
 overtaking-run = BeginWrite 5 9 ∷ BeginRead 5 ∷ Deliver 1 0 ∷ Deliver 1 0 ∷ Deliver 1 0 ∷ first ∷ first ∷ Advance 2 ∷ first ∷ []
 
 pub record Computed : Type 0 where
-  pub listing-history : historyOf 2 listing ≡ finished 2 (9 ∷ []) ∷ begun 2 (reads (5 ∷ [])) ∷ finished 1 (9 ∷ []) ∷ begun 1 (writes 5 9) ∷ []
-  pub listing-order : orderOf 2 listing ≡ 1 ∷ 2 ∷ []
+  pub listing-history : historyOf 2 row listing ≡ finished 2 (9 ∷ []) ∷ begun 2 (reads (5 ∷ [])) ∷ finished 1 (9 ∷ []) ∷ begun 1 (writes 5 9) ∷ []
+  pub listing-order : orderOf 2 row listing ≡ 1 ∷ 2 ∷ []
   -- the write of a removed tail's link is visible, without a reply
-  pub tail-removed : historyOf 2 (removing-run 2) ≡ finished 2 (9 ∷ []) ∷ begun 2 (reads (5 ∷ [])) ∷ begun 1 (writes 5 9) ∷ []
-  pub tail-removed-order : orderOf 2 (removing-run 2) ≡ 1 ∷ 2 ∷ []
+  pub tail-removed : historyOf 2 row (removing-run 2) ≡ finished 2 (9 ∷ []) ∷ begun 2 (reads (5 ∷ [])) ∷ begun 1 (writes 5 9) ∷ []
+  pub tail-removed-order : orderOf 2 row (removing-run 2) ≡ 1 ∷ 2 ∷ []
   -- the write of a removed head's link is lost
-  pub head-removed : historyOf 2 (removing-run 1) ≡ finished 2 (0 ∷ []) ∷ begun 2 (reads (5 ∷ [])) ∷ begun 1 (writes 5 9) ∷ []
-  pub overtaken-order : orderOf 2 overtaking-run ≡ 2 ∷ 1 ∷ []
+  pub head-removed : historyOf 2 row (removing-run 1) ≡ finished 2 (0 ∷ []) ∷ begun 2 (reads (5 ∷ [])) ∷ begun 1 (writes 5 9) ∷ []
+  pub overtaken-order : orderOf 2 row overtaking-run ≡ 2 ∷ 1 ∷ []
 
 pub computed : Computed
-unfolding packetOf messageOf isUnstamped refusing dropping passing overfull unstampedWrite switchRead stampedWrite directRead normalRead completion reply deliveredMessage startState asking beginStep delivered advancing removing givenUp positionOf decided answerTo after started waits held noneWait lookAt takenOut putLast added afterTaking edited moves without indexOf noneOpen isOpen hasRoom opening kept closing stampOf numberOf counterOf isAbove largerOf firstSlot secondSlot thirdSlot holdsObject countsAbove isFree holdsAbove freeSlot slotFor markAbove lookedUp marking marked isCompleted clearedAt completed newSwitch Chain.members Chain.liveCount Chain.placeOf Chain.isLive Chain.memberAt Chain.headOf Chain.tailOf Chain.chosenBy Chain.rowOf Chain.highestOf Chain.permittedBy Chain.appliedBy Chain.allOf Chain.permits Chain.allPermit Chain.removed Chain.newChain Links.entries has objectsOf finishOrder Store.cells Store.valueCell Store.stampCell Store.entryCell Store.emptyStore Store.valueAt Store.stampAt Store.entryAt Store.written Store.logged Replicas.linkedWrites Replicas.accepts Replicas.applying Replicas.received Replicas.pending Replicas.oldest Replicas.advanced Replicas.answersDirect
+unfolding packetOf messageOf isUnstamped refusing dropping passing overfull unstampedWrite switchRead stampedWrite directRead normalRead completion reply deliveredMessage startState asking beginStep delivered advancing removing givenUp positionOf decided answerTo after started waits placesIn heldIn noneWait lookAt takenOut putLast added afterTaking edited moves without indexOf noneOpen isOpen hasRoom opening kept closing stampOf numberOf counterOf isAbove largerOf firstSlot secondSlot thirdSlot holdsObject countsAbove isFree holdsAbove freeSlot slotFor markAbove lookedUp marking marked isCompleted clearedAt completed newSwitch Chain.members Chain.liveCount Chain.placeOf Chain.isLive Chain.memberAt Chain.headOf Chain.tailOf Chain.chosenBy Chain.rowOf Chain.highestOf Chain.permittedBy Chain.appliedBy Chain.allOf Chain.permits Chain.allPermit Chain.removed Chain.newChain Links.entries has objectsOf finishOrder Store.cells Store.valueCell Store.stampCell Store.entryCell Store.emptyStore Store.valueAt Store.stampAt Store.entryAt Store.written Store.logged Replicas.linkedWrites Replicas.accepts Replicas.applying Replicas.received Replicas.pending Replicas.oldest Replicas.advanced Replicas.answersDirect
 computed = record { listing-history = refl; listing-order = refl; tail-removed = refl; tail-removed-order = refl; head-removed = refl; overtaken-order = refl }
 
 -- a machine that drops every packet finishes nothing: the listing's history is not its history
-pub not-dropping : (h : History) → ((o : ℕ) → Finished h o → ⊥) → historyOf 2 listing ≡ h → ⊥
+pub not-dropping : (h : History) → ((o : ℕ) → Finished h o → ⊥) → historyOf 2 row listing ≡ h → ⊥
 not-dropping h never e = never 1 (subst (λ (k : History). Finished k 1) (sym (computed .listing-history) ∙ e) (9 ∷ [], there (there (here refl))))

@@ -1,27 +1,26 @@
 -- Demand 3: every run from an empty store has one order of its operations, and it is computed from the run.
-use mathlib.Core.Path.{_≡_, refl, sym}
+use mathlib.Core.Path.{_≡_, refl}
 use mathlib.Core.List.{List, [], _∷_}
 use Prim.Native.Nat.{ℕ, _≤_}
+use lib.ListN.{length}
+use Rattle.limits.specs as limits
 use Rattle.history.specs.History.{History}
 use Rattle.history.specs.Linearizability.{OneOrder}
 use Rattle.history.proofs.Lists.{no-member}
 use Rattle.history.proofs.Entries.{Entry, Linearizes}
 use Rattle.history.proofs.Claim.{numbers, one-order-of}
-use Rattle.operations.specs.{noneOpen}
 use Rattle.operations.proofs.Laws.{none-open}
-use Rattle.switch.specs.DirtySet.{newSwitch}
 use Rattle.switch.proofs.Laws.{new-committed}
+use Rattle.waiting.specs.declared.Packet.{Packet}
 use Rattle.waiting.specs.Waiting.{noneWait}
 use Rattle.waiting.proofs.Laws.{waits-none, sized-none}
-use Rattle.protocol.specs.declared.Message.{Message}
 use Rattle.protocol.specs.declared.Step.{Step}
-use Rattle.protocol.specs.Messages.{messageOf}
 use Rattle.protocol.specs.Steps.{Machine, startState, answerTo, after, started}
 use Rattle.log.proofs.Shows.{shows-start}
 use Rattle.linearizability.specs.Run.{noted, historyFrom, historyOf}
 use Rattle.linearizability.proofs.Core.{core-start}
 use Rattle.linearizability.proofs.Waits.{messages}
-use Rattle.linearizability.proofs.Invariant.{Books, Good, orderNext}
+use Rattle.linearizability.proofs.Invariant.{Good, orderNext}
 use Rattle.linearizability.proofs.Deliveries.{good-of}
 use Rattle.linearizability.proofs.Steps.{good-step}
 
@@ -31,18 +30,18 @@ orderFrom m h es [] = es
 orderFrom m h es (x ∷ xs) = orderFrom (after m x) (noted x (answerTo m x) h) (orderNext m (after m x) (answerTo m x) h es) xs
 
 -- the order of the operations of a run from an empty store of n replicas
-abbrev pub orderOf : ℕ → List Step → List ℕ
-orderOf n xs = numbers (orderFrom (started n) [] [] xs)
+abbrev pub orderOf : ℕ → List Packet → List Step → List ℕ
+orderOf n row xs = numbers (orderFrom (started n row) [] [] xs)
 
 -- an empty store
-no-messages : messages noneWait ≡ []
-no-messages = rw waits-none
+no-messages : (row : List Packet) → messages (noneWait row) ≡ []
+no-messages row = rw (waits-none row)
 
-pub good-start : (n : ℕ) → 1 ≤ n → n ≤ 8 → Good (started n) [] []
+pub good-start : (n : ℕ) → 1 ≤ n → n ≤ 8 → (row : List Packet) → limits.waiting ≤ length row → Good (started n row) [] []
 unfolding started startState
-good-start n low high =
-    good-of [] [] 0 [] no-messages (rw (new-committed 1) core-start) (shows-start n low high) (λ p m. absurd (no-member m))
-    (record { opened = λ o e. absurd (none-open o e); numbered = refl; bounded = λ o b. absurd (no-member (b .1)); ranged = λ o k i. absurd (no-member i) }) sized-none
+good-start n low high row long =
+    good-of [] [] 0 [] (no-messages row) (rw (new-committed 1) core-start) (shows-start n low high) (λ p m. absurd (no-member m))
+    (record { opened = λ o e. absurd (none-open o e); numbered = refl; bounded = λ o b. absurd (no-member (b .1)); ranged = λ o k i. absurd (no-member i) }) (sized-none row long)
 
 -- one step of the machine keeps the invariant
 pub good-after : {m : Machine} {h : History} {es : List Entry} → Good m h es → (x : Step) → Good (after m x) (noted x (answerTo m x) h) (orderNext m (after m x) (answerTo m x) h es)
@@ -53,6 +52,7 @@ run-linearizes : (xs : List Step) (m : Machine) (h : History) (es : List Entry) 
 run-linearizes [] m h es g = g .core .visible .linearizes
 run-linearizes (x ∷ xs) m h es g = run-linearizes xs (after m x) (noted x (answerTo m x) h) (orderNext m (after m x) (answerTo m x) h es) (good-after g x)
 
--- FOR EVERY NUMBER OF REPLICAS FROM 1 TO 8 AND EVERY LIST OF STEPS, refused ones included, one order explains the whole run
-pub one-order : (n : ℕ) → 1 ≤ n → n ≤ 8 → (xs : List Step) → OneOrder (historyOf n xs) (orderOf n xs)
-one-order n low high xs = one-order-of (run-linearizes xs (started n) [] [] (good-start n low high))
+-- FOR EVERY NUMBER OF REPLICAS FROM 1 TO 8, EVERY LENT ROW OF 64 PLACES OR MORE, whatever they hold, AND EVERY LIST OF STEPS, refused ones included, one
+-- order explains the whole run
+pub one-order : (n : ℕ) → 1 ≤ n → n ≤ 8 → (row : List Packet) → limits.waiting ≤ length row → (xs : List Step) → OneOrder (historyOf n row xs) (orderOf n row xs)
+one-order n low high row long xs = one-order-of (run-linearizes xs (started n row) [] [] (good-start n low high row long))

@@ -149,7 +149,7 @@ module _ {m : Machine} {h : History} {es : List Entry} (g : Good m h es) (at : �
           let p : Message = messageOf (lookAt (m .waiting) at) in
           let split = at-position (m .waiting) at inside in
           rw (order-stays m (done m (keeping (givenBy m) (decide (m .state) (takeOut at)))) es refl)
-          (good-of (g .issued) (g .log) (g .n) (front at (m .waiting) ++ back at (m .waiting)) (taken-out (m .waiting) (g .list-sized) at inside (waiting.held-most (m .waiting) (g .list-sized)))
+          (good-of (g .issued) (g .log) (g .n) (front at (m .waiting) ++ back at (m .waiting)) (taken-out (m .waiting) (g .list-sized) at inside (waiting.held-most (m .waiting)))
           (core-lose (front at (m .waiting)) p (back at (m .waiting)) (subst (λ (l : List Message). Core h es (g .issued) (g .log) (g .n) l (m .state .switch .committed)) split (g .core)))
           (g .shown)
           (posted-lost {c = m .state .chain} (front at (m .waiting)) p (back at (m .waiting)) (subst (λ (l : List Message). (q : Message) → q ∈ l → Placed (m .state .chain) q) split (g .posted)))

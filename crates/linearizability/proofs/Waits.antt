@@ -11,9 +11,8 @@ use Rattle.lists.specs.{without}
 use Rattle.lists.proofs.Closing.{length-without}
 use Rattle.waiting.specs.declared.Packet.{Packet}
 use Rattle.waiting.specs.declared.Edit.{Edit}
-use Rattle.waiting.specs.declared.WaitingList.{WaitingList}
-use Rattle.waiting.specs.Waiting.{blank, waits, held, lookAt, added, afterTaking, edited}
-use Rattle.waiting.proofs.Laws.{Sized, length-waits, look-is, waits-edited-taking, waits-edited-keeping}
+use Rattle.waiting.specs.Waiting.{WaitingList, blank, waits, held, lookAt, added, afterTaking, edited}
+use Rattle.waiting.proofs.Laws.{Sized, places-sized, length-waits, look-is, waits-edited-taking, waits-edited-keeping}
 use Rattle.protocol.specs.declared.Message.{Message}
 use Rattle.protocol.specs.declared.Message.the-variants.{UnstampedWrite, SwitchRead, StampedWrite, DirectRead, NormalRead, Completion, Reply, Unknown}
 use Rattle.protocol.specs.Messages.{packetOf, messageOf}
@@ -79,13 +78,13 @@ edited-nothing w = refl
 taking : (w : WaitingList) (e : Edit) → Sized w → e .take ≡ true → e .at < held w → held w + length (added e) ≤ 65
     → messages (edited w e) ≡ (front (e .at) w ++ back (e .at) w) ++ map messageOf (added e)
 taking w e s t h k =
-    ap (map messageOf) (waits-edited-taking w e t h (rw length-append (omega (arith, s, length-without (waits w) (e .at) (omega (arith, length-waits w)), length-waits w))))
+    ap (map messageOf) (waits-edited-taking w e t h (rw length-append (omega (arith, places-sized w s, length-without (waits w) (e .at) (omega (arith, length-waits w)), length-waits w))))
     ∙ map-append messageOf (without (waits w) (e .at)) (added e)
     ∙ ap (λ (l : List Message). l ++ map messageOf (added e)) (map-without messageOf (waits w) (e .at))
 
 keeping : (w : WaitingList) (e : Edit) → Sized w → e .take ≡ false → held w + length (added e) ≤ 64 → messages (edited w e) ≡ messages w ++ map messageOf (added e)
 keeping w e s t k =
-    ap (map messageOf) (waits-edited-keeping w e t (rw length-append (omega (arith, s, length-waits w)))) ∙ map-append messageOf (waits w) (added e)
+    ap (map messageOf) (waits-edited-keeping w e t (rw length-append (omega (arith, places-sized w s, length-waits w)))) ∙ map-append messageOf (waits w) (added e)
 
 -- what the test of the list's limit leaves
 pub room : (w : WaitingList) (out add : ℕ) → overfull (held w) out add ≡ false → held w ≤ 64 + out - add

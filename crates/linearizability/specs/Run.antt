@@ -2,6 +2,7 @@
 use mathlib.Core.List.{List, [], _∷_}
 use Prim.Native.Nat.{ℕ, suc}
 use Rattle.history.specs.History.{Kind, reads, writes, History, begun, finished}
+use Rattle.waiting.specs.declared.Packet.{Packet}
 use Rattle.protocol.specs.declared.Answer.{Answer}
 use Rattle.protocol.specs.declared.Answer.the-variants.{Done, Finished, Refused}
 use Rattle.protocol.specs.declared.Step.{Step}
@@ -45,6 +46,6 @@ abbrev pub historyFrom : Machine → History → List Step → History
 historyFrom m h [] = h
 historyFrom m h (x ∷ xs) = historyFrom (after m x) (noted x (answerTo m x) h) xs
 
--- what happened in the run of these steps from an empty store of n replicas
-abbrev pub historyOf : ℕ → List Step → History
-historyOf n xs = historyFrom (started n) [] xs
+-- what happened in the run of these steps from an empty store of n replicas, whatever the lent places for packets hold
+abbrev pub historyOf : ℕ → List Packet → List Step → History
+historyOf n row xs = historyFrom (started n row) [] xs

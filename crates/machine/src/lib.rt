@@ -1,17 +1,17 @@
-// The step machine of document 01: one step at a time, over a state by value, a waiting list, and a store and open operations that the caller lends.
+// The step machine of document 01: one step at a time, over a state and a count by value, and a store, open operations and packets that the caller lends.
 ghost use mathlib.Core.Path.{_≡_};
-ghost use Rattle.protocol.specs.Answers.{refusalNumber};
 ghost use Rattle.protocol.specs.Decisions.{given};
 ghost use Rattle.protocol.specs.Steps.{startRefused, startState, startAnswer, startStore, startOpens, delivered, positionOf, decided, machine, answerTo, after};
+ghost use Rattle.waiting.specs.Waiting.{waitingList, heldIn};
 
-pub mod decisions;
-pub mod delivery;
-pub mod messages;
 pub mod steps;
 
+use delivery::decisions;
+use delivery::messages;
 use limits::OPEN;
 use limits::Object;
 use limits::Operation;
+use limits::REPLICAS;
 use protocol::Answer;
 use protocol::Decision;
 use protocol::Message;
@@ -24,30 +24,6 @@ use replicas::Chain;
 use replicas::store;
 use switch::Switch;
 use waiting::Packet;
-use waiting::WaitingList;
-
-// The number that document 01 gives a refusal.
-pub fn refusal_number(r: Refusal) -> u8
-    ensures { λ x. ⌜ x ≡ refusalNumber r ⌝ }
-{
-    match r {
-        Refusal::Format => 1,
-        Refusal::Replicas => 2,
-        Refusal::ObjectNumber => 3,
-        Refusal::OperationsUsedUp => 4,
-        Refusal::OpenFull => 5,
-        Refusal::WaitingFull => 6,
-        Refusal::NoPacket => 7,
-        Refusal::UnstampedRepeat => 8,
-        Refusal::NotLive => 9,
-        Refusal::NoLinkedWrite => 10,
-        Refusal::SwitchNumber => 11,
-        Refusal::LastReplica => 12,
-        Refusal::NotOpen => 13,
-        Refusal::InputTooLong => 14,
-        Refusal::BufferTooShort => 15,
-    }
-}
 
 // Whether a start with n replicas is refused, by 2.
 pub fn start_refused(n: u8) -> bool
@@ -56,7 +32,7 @@ pub fn start_refused(n: u8) -> bool
     if n == 0 {
         return true;
     }
-    8 < n
+    REPLICAS < (n as usize)
 }
 
 fn start_state(n: u8) -> State
@@ -69,8 +45,8 @@ fn start_state(n: u8) -> State
     }
 }
 
-// A start with n replicas: an empty store with no operation open and no packet waiting. After a refusal the lent buffers hold what they held; the state
-// that is handed back is then of no use.
+// A start with n replicas: an empty store with no operation open and no packet waiting; the lent packets are not touched. After a refusal the lent buffers
+// hold what they held; the state that is handed back is then of no use.
 pub fn start(n: u8, cells: &mut [u32; CELLS], opens: &mut [Operation; OPEN]) -> Stepped
     ensures { λ r. ⌜ (r ≡ startAnswer n)
         × (now (cells .exit) ≡ startStore n (now (cells .entry)))
@@ -80,7 +56,7 @@ pub fn start(n: u8, cells: &mut [u32; CELLS], opens: &mut [Operation; OPEN]) -> 
         return Stepped {
             answer: Answer::Refused(Refusal::Replicas),
             state: start_state(n),
-            waiting: WaitingList::new(),
+            count: 0,
         };
     }
     store::clear(&mut *cells);
@@ -88,7 +64,7 @@ pub fn start(n: u8, cells: &mut [u32; CELLS], opens: &mut [Operation; OPEN]) -> 
     Stepped {
         answer: Answer::Done,
         state: start_state(n),
-        waiting: WaitingList::new(),
+        count: 0,
     }
 }
 
@@ -166,29 +142,55 @@ pub fn decide(
     }
 }
 
+// The same, of `count` packets in so many lent places.
+fn decide_among(
+    s: State,
+    cells: &mut [u32; CELLS],
+    opens: &mut [Operation; OPEN],
+    places: usize,
+    count: usize,
+    p: Packet,
+    x: Step,
+) -> Decision
+    ensures { λ d. ⌜ (d ≡ decided (given s (now (cells .entry)) (now (opens .entry)) (heldIn places count)) p x .decision)
+        × (now (cells .exit) ≡ decided (given s (now (cells .entry)) (now (opens .entry)) (heldIn places count)) p x .store)
+        × (now (opens .exit) ≡ decided (given s (now (cells .entry)) (now (opens .entry)) (heldIn places count)) p x .opens) ⌝ }
+{
+    let held = waiting::held(places, count);
+    decide(s, &mut *cells, &mut *opens, held, p, x)
+}
+
+// What a step hands back, from what was decided and the count after the edit.
+fn result(d: Decision, count: usize) -> Stepped
+    ensures { λ r. ⌜ r ≡ record { answer = d .answer; state = d .state; count = count } ⌝ }
+{
+    let answer = d.answer;
+    let state = d.state;
+    Stepped {
+        answer,
+        state,
+        count,
+    }
+}
+
 // One step of the machine: look at the packet, decide, edit the list.
 pub fn step(
     s: State,
     cells: &mut [u32; CELLS],
     opens: &mut [Operation; OPEN],
-    waiting: WaitingList,
+    packets: &mut [Packet],
+    count: usize,
     x: Step,
 ) -> Stepped
-    ensures { λ r. ⌜ (r .answer ≡ answerTo (machine s (now (cells .entry)) (now (opens .entry)) waiting) x)
-        × (r .state ≡ after (machine s (now (cells .entry)) (now (opens .entry)) waiting) x .state)
-        × (r .waiting ≡ after (machine s (now (cells .entry)) (now (opens .entry)) waiting) x .waiting)
-        × (now (cells .exit) ≡ after (machine s (now (cells .entry)) (now (opens .entry)) waiting) x .store)
-        × (now (opens .exit) ≡ after (machine s (now (cells .entry)) (now (opens .entry)) waiting) x .opens) ⌝ }
+    ensures { λ r. ⌜ (r .answer ≡ answerTo (machine s (now (cells .entry)) (now (opens .entry)) (waitingList (now (packets .entry)) count)) x)
+        × (r .state ≡ after (machine s (now (cells .entry)) (now (opens .entry)) (waitingList (now (packets .entry)) count)) x .state)
+        × (r .count ≡ after (machine s (now (cells .entry)) (now (opens .entry)) (waitingList (now (packets .entry)) count)) x .waiting .count)
+        × (now (cells .exit) ≡ after (machine s (now (cells .entry)) (now (opens .entry)) (waitingList (now (packets .entry)) count)) x .store)
+        × (now (opens .exit) ≡ after (machine s (now (cells .entry)) (now (opens .entry)) (waitingList (now (packets .entry)) count)) x .opens)
+        × (now (packets .exit) ≡ after (machine s (now (cells .entry)) (now (opens .entry)) (waitingList (now (packets .entry)) count)) x .waiting .packets) ⌝ }
 {
-    let held = waiting.held();
-    let p = waiting.look(position(x));
-    let d = decide(s, &mut *cells, &mut *opens, held, p, x);
-    let answer = d.answer;
-    let state = d.state;
-    let edit = d.edit;
-    Stepped {
-        answer,
-        state,
-        waiting: waiting.change(edit),
-    }
+    let p = waiting::look(packets, count, position(x));
+    let d = decide_among(s, cells, opens, packets.len(), count, p, x);
+    let n = waiting::change(packets, count, d.edit);
+    result(d, n)
 }

@@ -1,12 +1,12 @@
-// Every step but the delivery of a packet, which stands in delivery.rt.
+// Every step but the delivery of a packet, which the crate below has.
 ghost use mathlib.Core.Path.{_≡_};
 ghost use Prim.Native.Nat.{_+_};
 ghost use Rattle.protocol.specs.Steps.{asking, begun, lost, repeated, applyingOldest, sending, advancing, replaced, told, removing, givenUp};
-use crate::decisions;
-use crate::delivery;
-use crate::messages;
+use delivery::decisions;
+use delivery::messages;
 use limits::LAST_OPERATION;
 use limits::Number;
+use limits::OBJECTS;
 use limits::OPEN;
 use limits::Object;
 use limits::Operation;
@@ -42,7 +42,7 @@ pub fn begin(
 ) -> Decision
     ensures { λ d. ⌜ (d ≡ begun s (now (opens .entry)) held «is_write» x v .decision) × (now (opens .exit) ≡ begun s (now (opens .entry)) held «is_write» x v .opens) ⌝ }
 {
-    if 1024 <= x {
+    if OBJECTS <= (x as usize) {
         return decisions::refuse(s, Refusal::ObjectNumber);
     }
     if LAST_OPERATION <= s.last {

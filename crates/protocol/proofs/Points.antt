@@ -16,8 +16,7 @@ use Rattle.replicas.specs.Replicas.{linkedWrites, accepts, answersDirect}
 use Rattle.switch.specs.declared.Switch.{Switch}
 use Rattle.switch.specs.DirtySet.{slots, firstSlot, secondSlot, thirdSlot, holdsObject, countsAbove, isFree, holdsAbove, freeSlot, slotFor, markAbove, lookedUp, marking, marked, isCompleted, clearedAt, completed, newSwitch, countedTo, countedMarks}
 use Rattle.waiting.specs.declared.Packet.{Packet}
-use Rattle.waiting.specs.declared.WaitingList.{WaitingList}
-use Rattle.waiting.specs.Waiting.{held, noneWait, lookAt, takenOut, putLast, afterTaking, edited}
+use Rattle.waiting.specs.Waiting.{WaitingList, waitingList, placesIn, heldIn, held, blank, noneWait, lookAt, takenOut, putLast, afterTaking, edited}
 use Rattle.protocol.specs.declared.Answer.{Answer}
 use Rattle.protocol.specs.declared.Answer.the-variants.{Done, Finished, Refused}
 use Rattle.protocol.specs.declared.Message.{Message}
@@ -63,7 +62,11 @@ lone w = machine (startState 1) [] noneOpen w
 
 -- so many packets with this message
 copies : ℕ → Message → WaitingList
-copies n q = record { packets = replicate limits.waiting (packetOf q); count = n }
+copies n q = waitingList (replicate limits.waiting (packetOf q)) n
+
+-- 64 places, and no packet waiting
+emptyList : WaitingList
+emptyList = noneWait (replicate limits.waiting blank)
 
 -- the switch after these objects were marked in turn
 markedAll : Switch → List ℕ → Switch
@@ -113,8 +116,8 @@ points =
     point 1 (isAbove (stampOf 2 1) (stampOf 1 65535) ∷ not (isAbove (stampOf 1 65535) (stampOf 2 1)) ∷ []) ∷
     -- 'Object 1,023 is taken; 1,024 gives 3.'
     point 2
-    (gives (answerTo (lone noneWait) (BeginRead 1023)) 0 ∷ gives (answerTo (lone noneWait) (BeginRead 1024)) 3 ∷
-    gives (answerTo (lone noneWait) (BeginWrite 1023 9)) 0 ∷ gives (answerTo (lone noneWait) (BeginWrite 1024 9)) 3 ∷ []) ∷
+    (gives (answerTo (lone emptyList) (BeginRead 1023)) 0 ∷ gives (answerTo (lone emptyList) (BeginRead 1024)) 3 ∷
+    gives (answerTo (lone emptyList) (BeginWrite 1023 9)) 0 ∷ gives (answerTo (lone emptyList) (BeginWrite 1024 9)) 3 ∷ []) ∷
     -- 'Starts 1 and 8 stand; 0 and 9 give 2.'
     point 3
     (gives (startAnswer 1 .answer) 0 ∷ gives (startAnswer 8 .answer) 0 ∷
@@ -143,5 +146,5 @@ points =
 
 -- the definitions compute every row
 pub points-hold : allHold points ≡ true
-unfolding points allHold allTrue gives lone copies markedAll switchOfP4 switchOfP7 storeOfP6 readOfP6 sends writeOfP10 chainOfP11 stampOf numberOf counterOf isAbove largerOf noneOpen hasRoom indexOf moves members liveCount placeOf isLive memberAt headOf tailOf chosenBy rowOf highestOf permittedBy appliedBy removed newChain valueCell stampCell valueAt stampAt written linkedWrites accepts answersDirect firstSlot secondSlot thirdSlot holdsObject countsAbove isFree holdsAbove freeSlot slotFor markAbove lookedUp marking marked isCompleted clearedAt completed newSwitch countedTo countedMarks held noneWait lookAt takenOut putLast afterTaking edited packetOf messageOf isUnstamped refusing passing overfull directRead stampedWrite deliveredMessage startRefused startState startAnswer begun delivered repeated positionOf decided answerTo after
+unfolding points allHold allTrue gives lone copies emptyList markedAll switchOfP4 switchOfP7 storeOfP6 readOfP6 sends writeOfP10 chainOfP11 stampOf numberOf counterOf isAbove largerOf noneOpen hasRoom indexOf moves members liveCount placeOf isLive memberAt headOf tailOf chosenBy rowOf highestOf permittedBy appliedBy removed newChain valueCell stampCell valueAt stampAt written linkedWrites accepts answersDirect firstSlot secondSlot thirdSlot holdsObject countsAbove isFree holdsAbove freeSlot slotFor markAbove lookedUp marking marked isCompleted clearedAt completed newSwitch countedTo countedMarks placesIn heldIn noneWait lookAt takenOut putLast afterTaking edited packetOf messageOf isUnstamped refusing passing overfull directRead stampedWrite deliveredMessage startRefused startState startAnswer begun delivered repeated positionOf decided answerTo after
 points-hold = refl

@@ -12,8 +12,7 @@ use Rattle.switch.specs.DirtySet.{newSwitch}
 use Rattle.replicas.specs.declared.Write.{Write}
 use Rattle.waiting.specs.declared.Packet.{Packet}
 use Rattle.waiting.specs.declared.Edit.{Edit}
-use Rattle.waiting.specs.declared.WaitingList.{WaitingList}
-use Rattle.waiting.specs.Waiting.{held, lookAt, edited, noneWait}
+use Rattle.waiting.specs.Waiting.{WaitingList, held, lookAt, edited, noneWait}
 use Rattle.protocol.specs.declared.Refusal.the-variants.{Format, Replicas, ObjectNumber, OperationsUsedUp, OpenFull, WaitingFull, NoPacket, UnstampedRepeat, NotLive, NoLinkedWrite, SwitchNumber, LastReplica, NotOpen}
 use Rattle.protocol.specs.declared.Answer.{Answer}
 use Rattle.protocol.specs.declared.Answer.the-variants.{Done, Refused}
@@ -38,9 +37,9 @@ startRefused n = cond (eqb n 0) true (ltb limits.replicas n)
 unfoldable pub startState : ℕ → State
 startState n = record { switch = newSwitch 1; chain = newChain n; last = 0 }
 
--- its answer, with the state and the list that it gives; after a refusal nothing holds of those
+-- its answer, with the state that it gives, and no packet waiting; after a refusal nothing holds of those
 unfoldable pub startAnswer : ℕ → Stepped
-startAnswer n = record { answer = cond (startRefused n) (Refused Replicas) Done; state = startState n; waiting = noneWait }
+startAnswer n = record { answer = cond (startRefused n) (Refused Replicas) Done; state = startState n; count = 0 }
 
 -- the lent buffers after it
 unfoldable pub startStore : ℕ → List ℕ → List ℕ
@@ -182,6 +181,10 @@ after m x = record {
   waiting = edited (m .waiting) (outcomeOf m x .decision .edit);
 }
 
--- 'An empty store is the state that an accepted start gives, with no packet waiting.'
-unfoldable pub started : ℕ → Machine
-started n = record { state = startState n; store = emptyStore; opens = noneOpen; waiting = noneWait }
+-- what a step hands back: its answer, and the state and the count that it leaves
+abbrev pub steppedBy : Machine → Step → Stepped
+steppedBy m x = record { answer = answerTo m x; state = after m x .state; count = after m x .waiting .count }
+
+-- 'An empty store is the state that an accepted start gives, with no packet waiting', whatever the lent places hold
+unfoldable pub started : ℕ → List Packet → Machine
+started n row = record { state = startState n; store = emptyStore; opens = noneOpen; waiting = noneWait row }

@@ -9,7 +9,6 @@ use replicas::Chain;
 use replicas::Write;
 use switch::Switch;
 use waiting::Edit;
-use waiting::WaitingList;
 
 // Document 01, 'Steps and their records'. The fields have the widths that the records give them.
 pub enum Step {
@@ -64,7 +63,8 @@ pub enum Message {
     Unknown,
 }
 
-// What goes from step to step by value; the store and the open operations are lent. `last` is the last operation number given.
+// What goes from step to step by value; the store, the open operations and the waiting packets are lent. `last` is the last operation number given.
+#[repr(C)]
 pub struct State {
     pub switch: Switch,
     pub chain: Chain,
@@ -78,9 +78,9 @@ pub struct Decision {
     pub edit: Edit,
 }
 
-// What a step answers, and the state and the waiting list that it leaves.
+// What a step answers, the state that it leaves, and how many packets then wait.
 pub struct Stepped {
     pub answer: Answer,
     pub state: State,
-    pub waiting: WaitingList,
+    pub count: usize,
 }

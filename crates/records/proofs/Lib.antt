@@ -2,3 +2,4 @@
 pub mod Table
 pub mod Parts
 pub mod Round
+mod Walks

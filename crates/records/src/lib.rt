@@ -3,12 +3,17 @@ ghost use mathlib.Core.Path.{_≡_};
 ghost use Prim.Native.Nat.{_+_};
 ghost use lib.Dec.{leb};
 
+mod cursor;
 mod kinds;
 mod reader;
 mod writer;
 
 use protocol::Step;
-pub use reader::next_at;
+pub use cursor::Reader;
+pub use cursor::read_at;
+pub use kinds::NO_STEP;
+pub use kinds::content_length;
+pub use kinds::kind_of_tag;
 pub use reader::record_at;
 pub use writer::record_length;
 pub use writer::write_at;

@@ -1,4 +1,4 @@
-// The reader: what stands at a position of one lent input.
+// What stands at a position of one lent input. src/cursor.rt has the reader that walks it.
 ghost use mathlib.Core.Path.{_≡_};
 ghost use Prim.Native.Nat.{_+_, _≤_};
 ghost use lib.ListN.{length};

@@ -5,7 +5,7 @@ use mathlib.Core.Bool.{true}
 use mathlib.Core.List.{List, [], _∷_, _++_}
 use Prim.Native.Nat.{ℕ, zero, suc, _+_, _-_, _≤_, _<_}
 use native.Mathlib.Nat.{zero-add, suc-add, le-refl}
-use native.Mathlib.Decide.{ℕ-discrete}
+use native.Mathlib.Decide.{ℕ-discrete, decLt}
 use native.Mathlib.Omega.{arith}
 use lib.ListN.{drop}
 use borrow.Author.Tests.{lt-ltb}
@@ -22,7 +22,7 @@ use Rattle.replicas.proofs.ChainLaws.{place-below, place-same, members-
 use Rattle.replicas.proofs.Cells.{SizedStore, entry-written, entry-logged-same, entry-logged-other, positions-apart}
 use Rattle.replicas.proofs.Moves.{accepts-live, accepts-room, received-taken, pending-live, pending-after, pending-behind, pending-head}
 use Rattle.replicas.proofs.Moves.{advanced-taken}
-use Rattle.replicas.proofs.Descending.{Descending, place-is, rows-apart, places-apart, falls-to, before-apart, own-lags}
+use Rattle.replicas.proofs.Descending.{Descending, place-is, rows-apart, places-apart, falls-to, before-apart, own-lags, descending-removed}
 
 -- ---- runs of the log
 
@@ -299,3 +299,57 @@ received-others u q r w g z f b a =
     (entries-written (logged (u .store) (appliedBy c r) w) r w (appliedBy c q) (pending c q) ∙
     entries-logged (u .store) (appliedBy c r) w (appliedBy c q) (pending c q) within
     (recent c q r g f e z (accepts-room c r (w .stamp) a)))
+
+-- a removal moves the replicas behind it up one place, and leaves those before it
+module _ (c : Chain) (q r : ℕ) (g : Descending c) (f : isLive c q ≡ true) (e : isLive c r ≡ true) where
+  left-before : placeOf c q < placeOf c r → placeOf (removed c r) q ≡ placeOf c q
+  left-before b =
+      let here : memberAt (removed c r) (placeOf c q) ≡ q = member-removed-before c r (placeOf c q) e b ∙ place-at c q f in
+      ap (placeOf (removed c r)) (sym here) ∙
+      place-is (removed c r) (placeOf c q) (descending-removed c r g) (omega (arith, count-removed c r e, place-below c r e))
+
+  left-behind : placeOf c r < placeOf c q → placeOf (removed c r) q ≡ placeOf c q - 1
+  left-behind b =
+      let up : placeOf c q - 1 + 1 ≡ placeOf c q = omega arith in
+      let here : memberAt (removed c r) (placeOf c q - 1) ≡ q =
+      member-removed-behind c r (placeOf c q - 1) e (omega arith) ∙ ap (memberAt c) up ∙ place-at c q f in
+      ap (placeOf (removed c r)) (sym here) ∙
+      place-is (removed c r) (placeOf c q - 1) (descending-removed c r g) (omega (arith, count-removed c r e, place-below c q f))
+
+  -- at another place, with the same replica before it, as much is to come as before
+  left-pending : (k : ℕ) → placeOf (removed c r) q ≡ k → 0 < k → k < liveCount c - 1 → 0 < placeOf c q →
+      memberAt (removed c r) (k - 1) ≡ memberAt c (placeOf c q - 1) → pending (removed c r) q ≡ pending c q
+  unfolding isLive
+  left-pending k p b n h same =
+      let live : isLive (removed c r) q ≡ true =
+      lt-ltb (placeOf (removed c r) q) (liveCount (removed c r)) (omega (arith, p, count-removed c r e)) in
+      let before : memberAt (removed c r) (placeOf (removed c r) q - 1) ≡ memberAt c (placeOf c q - 1) =
+      ap (λ (i : ℕ). memberAt (removed c r) (i - 1)) p ∙ same in
+      simp (before, applied-removed) at (pending-behind (removed c r) q live (omega (arith, p))) ∙ sym (pending-behind c q f h)
+
+  removed-pending : (placeOf c q ≡ placeOf c r → ⊥) → (placeOf c q ≡ placeOf c r + 1 → ⊥) → pending (removed c r) q ≡ pending c q
+  removed-pending d n =
+      elim (decLt (placeOf c q) (placeOf c r)) [
+        | yes b ↦ elim (ℕ-discrete (placeOf c q) 0) [
+            | yes z ↦ pending-head (removed c r) q (left-before b ∙ z) ∙ sym (pending-head c q z)
+            | no z ↦ left-pending (placeOf c q) (left-before b) (omega arith) (omega (arith, place-below c r e)) (omega arith)
+                (member-removed-before c r (placeOf c q - 1) e (omega arith))
+          ]
+        | no b ↦ behind (differ d n b)
+      ]
+    where
+      differ : (placeOf c q ≡ placeOf c r → ⊥) → (placeOf c q ≡ placeOf c r + 1 → ⊥) → ¬ (placeOf c q < placeOf c r) → placeOf c r + 1 < placeOf c q
+      differ d n b = omega (arith, d, n, b)
+
+      behind : placeOf c r + 1 < placeOf c q → pending (removed c r) q ≡ pending c q
+      behind b =
+          let up : placeOf c q - 1 - 1 + 1 ≡ placeOf c q - 1 = omega arith in
+          left-pending (placeOf c q - 1) (left-behind (omega arith)) (omega arith) (omega (arith, place-below c q f)) (omega arith)
+          (member-removed-behind c r (placeOf c q - 1 - 1) e (omega arith) ∙ ap (memberAt c) up)
+
+-- a removal leaves every link but those of the replica and of the next one as it is
+pub removed-others : (u : World) (q r : ℕ) → Descending (u .chain) → isLive (u .chain) q ≡ true → isLive (u .chain) r ≡ true →
+    (placeOf (u .chain) q ≡ placeOf (u .chain) r → ⊥) → (placeOf (u .chain) q ≡ placeOf (u .chain) r + 1 → ⊥) →
+    linkInto (world (removed (u .chain) r) (u .store)) q ≡ linkInto u q
+unfolding linkInto
+removed-others u q r g f e d n = rw (applied-removed (u .chain) q r, removed-pending (u .chain) q r g f e d n) refl

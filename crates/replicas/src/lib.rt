@@ -26,6 +26,7 @@ pub const ENTRIES: usize = 16384;
 pub const CELLS: usize = 16640;
 
 // `highest`, `permits` and `applied` have a place for each row of the tables.
+#[repr(C)]
 pub struct Chain {
     pub live: usize,
     pub order: [Replica; REPLICAS],

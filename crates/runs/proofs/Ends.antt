@@ -9,6 +9,7 @@ use native.Mathlib.Omega.{arith}
 use lib.Dec.{ltb}
 use lib.ListN.{length}
 use Rattle.limits.specs as limits
+use Rattle.waiting.specs.declared.Packet.{Packet}
 use Rattle.protocol.specs.declared.Step.{Step}
 use Rattle.protocol.specs.declared.Refusal.the-variants.{InputTooLong}
 use Rattle.protocol.specs.Answers.{refusalNumber}
@@ -71,16 +72,16 @@ turns-more (suc k) j input u =
     (ap (λ (l : List ℕ). nextPrinted input u .line ++ l) (turns-more k j input (nextPrinted input u .then)) ∙
     sym (append-assoc (nextPrinted input u .line) (turns k input (nextPrinted input u .then)) (turns j input (afterTurns k input (nextPrinted input u .then)))))
 
-module _ (store opens input : List ℕ) where
+module _ (store opens : List ℕ) (row : List Packet) (input : List ℕ) where
   -- how a run stands after its first record
   abbrev pub first : Standing
-  first = firstPrinted store opens input .then
+  first = firstPrinted store opens row input .then
 
   -- it is over, or stands within the input, past its start
   abbrev pub Ahead : Standing → Type 0
   Ahead u = (u .over ≡ true) ⊎ ((0 < u .at) × (u .at ≤ length input))
 
-  pub opened-ahead : (f : Next) → nextAt input 0 ≡ f → Ahead (opened store opens f .then)
+  pub opened-ahead : (f : Next) → nextAt input 0 ≡ f → Ahead (opened store opens row f .then)
   unfolding stopped startedWith
   opened-ahead (Next.Record x n) e = let p = next-position input 0 n x (next-record input 0 n x e .0) in inr (p .1, p .2)
   opened-ahead Next.End e = inl refl
@@ -90,7 +91,7 @@ module _ (store opens input : List ℕ) where
   unfolding firstPrinted stopped
   first-ahead = go (ltb limits.input (length input))
     where
-      go : (t : Bool) → Ahead (cond t (stopped store opens (noLine 0 (refusalNumber InputTooLong))) (opened store opens (nextAt input 0)) .then)
+      go : (t : Bool) → Ahead (cond t (stopped store opens row (noLine 0 (refusalNumber InputTooLong))) (opened store opens row (nextAt input 0)) .then)
       go true = inl refl
       go false = opened-ahead (nextAt input 0) refl
 

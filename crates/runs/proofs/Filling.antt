@@ -4,14 +4,16 @@ use mathlib.Core.Bool.{Bool, true, false, cond}
 use mathlib.Core.List.{List, [], _∷_, _++_}
 use Prim.Native.Nat.{ℕ, zero, suc, _+_, _-_, _<_, _≤_}
 use native.Mathlib.Omega.{arith}
-use lib.ListN.{length}
+use lib.ListN.{length, replicate}
 use lib.Seq.{length-take-le}
 use Rattle.lines.specs.Text.{text, putIn, placeAfter}
 use Rattle.lines.proofs.Text.{put-nothing, put-length, place-within}
+use Rattle.limits.specs as limits
+use Rattle.waiting.specs.declared.Packet.{Packet}
+use Rattle.waiting.specs.Waiting.{blank}
+use Rattle.runs.specs.declared.Run.{Run}
 use Rattle.runs.specs.declared.Ran.{Ran}
-use Rattle.runs.specs.Runs.{Standing, Printed, Gives, standsAs, continued, nextPrinted, Filled, filled, firstPrinted, filledWith, InUse}
-use Rattle.operations.specs.{noneOpen}
-use Rattle.replicas.specs.Store.{emptyStore}
+use Rattle.runs.specs.Runs.{Standing, Printed, Gives, standsAs, continued, nextPrinted, Filled, filled, begins, filledWith, InUse, turnsLeft}
 use Rattle.records.specs.declared.Next.{Next}
 use Rattle.runs.proofs.Ends.{over-next}
 
@@ -42,13 +44,25 @@ filled-next (suc k) input u out used h =
     ap (λ (j : ℕ). filled j input (nextPrinted input u .then) (putIn out used (nextPrinted input u .line)) (placeAfter out used (nextPrinted input u .line))) less
 
 -- a turn of the loop leaves the end of the run as it was
-pub filled-again : (k : ℕ) (input : List ℕ) (u : Standing) (out : List ℕ) (used : ℕ) → 0 < k
-    → (ran : Ran) (store opens : List ℕ) → Gives ran store opens (nextPrinted input u)
-    → filled (cond (ran .run .over) 0 (k - 1)) input (standsAs (ran .run) store opens) (putIn out used (text (ran .line))) (placeAfter out used (text (ran .line))) ≡ filled k input u out used
-unfolding standsAs
-filled-again k input u out used h ran store opens g =
-    filled-left (k - 1) input (standsAs (ran .run) store opens) (putIn out used (text (ran .line))) (placeAfter out used (text (ran .line))) ∙
-    rw (g .stands, g .reads) (filled-next k input u out used h)
+pub filled-again : (input : List ℕ) (r : Run) (store opens : List ℕ) (row : List Packet) (out : List ℕ) (used : ℕ) → 0 < r .left
+    → (ran : Ran) (store' opens' : List ℕ) (row' : List Packet) (buffer : List ℕ)
+    → Gives ran store' opens' row' buffer (r .left - 1) out used (nextPrinted input (standsAs r store opens row))
+    → filled (ran .run .left) input (standsAs (ran .run) store' opens' row') buffer (ran .used) ≡ filled (r .left) input (standsAs r store opens row) out used
+unfolding turnsLeft
+filled-again input r store opens row out used h ran store' opens' row' buffer g =
+    rw (g .stands, g .place, g .there, g .left)
+    (filled-left (r .left - 1) input (nextPrinted input (standsAs r store opens row) .then) _ _ ∙ filled-next (r .left) input (standsAs r store opens row) out used h)
+
+-- and a run has fewer turns left after it
+pub fewer-left : (input : List ℕ) (r : Run) (u : Standing) (out : List ℕ) (used : ℕ) → 0 < r .left
+    → (ran : Ran) (store' opens' : List ℕ) (row' : List Packet) (buffer : List ℕ)
+    → Gives ran store' opens' row' buffer (r .left - 1) out used (nextPrinted input u) → ran .run .left < r .left
+unfolding turnsLeft
+fewer-left input r u out used h ran store' opens' row' buffer g = rw (g .left) (go (nextPrinted input u .then .over))
+  where
+    go : (t : Bool) → cond t 0 (r .left - 1) < r .left
+    go true = h
+    go false = omega arith
 
 -- when none is left, the buffer is what it is to be
 pub none-left : (k : ℕ) (input : List ℕ) (u : Standing) (out : List ℕ) (used : ℕ) (f : Filled) → k ≤ 0 → filled k input u out used ≡ f → (used ≡ f .used) × (out ≡ f .out)
@@ -65,23 +79,23 @@ filled-within (suc k) input u out used h = filled-within k input _ _ _ (rw (put-
 
 -- the whole run, from its first record on
 module _ (input out : List ℕ) where
-  abbrev line : List ℕ
-  line = firstPrinted emptyStore noneOpen input .line
+  abbrev row : List Packet
+  row = replicate limits.waiting blank
 
   whole-within : filledWith input out .used ≤ length (filledWith input out .out)
   unfolding filledWith
   whole-within =
-      filled-within (length input) input (firstPrinted emptyStore noneOpen input .then) (putIn out 0 line) (placeAfter out 0 line)
-      (rw (put-length out 0 line) (place-within out 0 line (omega arith)))
+      filled-within (length input) input (begins input .then) (putIn out 0 (begins input .line)) (placeAfter out 0 (begins input .line))
+      (rw (put-length out 0 (begins input .line)) (place-within out 0 (begins input .line) (omega arith)))
 
-  pub filled-whole : (store opens : List ℕ) (ran : Ran) → Gives ran store opens (firstPrinted emptyStore noneOpen input)
-      → (out' : List ℕ) (used' : ℕ) → used' ≡ placeAfter out 0 (text (ran .line)) → out' ≡ putIn out 0 (text (ran .line))
-      → (b : List ℕ) (n : ℕ) → n ≡ filled (length input) input (standsAs (ran .run) store opens) out' used' .used
-      → b ≡ filled (length input) input (standsAs (ran .run) store opens) out' used' .out
+  pub filled-whole : (store opens buffer : List ℕ) (ran : Ran) → Gives ran store opens row buffer (length input) out 0 (begins input)
+      → (b : List ℕ) (n : ℕ) → n ≡ filled (ran .run .left) input (standsAs (ran .run) store opens row) buffer (ran .used) .used
+      → b ≡ filled (ran .run .left) input (standsAs (ran .run) store opens row) buffer (ran .used) .out
       → ((n ≡ filledWith input out .used) × (b ≡ filledWith input out .out)) × InUse n b
-  unfolding filledWith
-  filled-whole store opens ran g out' used' at there b n e f =
-      let same : filled (length input) input (standsAs (ran .run) store opens) out' used' ≡ filledWith input out = rw (at, there, g .stands, g .reads) refl in
+  unfolding filledWith turnsLeft
+  filled-whole store opens buffer ran g b n e f =
+      let same : filled (ran .run .left) input (standsAs (ran .run) store opens row) buffer (ran .used) ≡ filledWith input out =
+      rw (g .stands, g .place, g .there, g .left) (filled-left (length input) input (begins input .then) _ _) in
       let count : n ≡ filledWith input out .used = e ∙ ap (λ (f : Filled). f .used) same in
-      let buffer : b ≡ filledWith input out .out = f ∙ ap (λ (f : Filled). f .out) same in
-      ((count, buffer), rw (count, buffer) (whole-within, sym (length-take-le (filledWith input out .used) (filledWith input out .out) whole-within)))
+      let buffer-is : b ≡ filledWith input out .out = f ∙ ap (λ (f : Filled). f .out) same in
+      ((count, buffer-is), rw (count, buffer-is) (whole-within, sym (length-take-le (filledWith input out .used) (filledWith input out .out) whole-within)))

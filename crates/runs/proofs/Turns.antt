@@ -1,9 +1,10 @@
 -- One turn of a run: what was read, the step of the machine and what is concluded from both are the turn that specs/Runs.antt defines.
-use mathlib.Core.Path.{_≡_, refl, subst}
+use mathlib.Core.Path.{_≡_, refl, ap}
 use mathlib.Core.List.{List}
-use Prim.Native.Nat.{ℕ}
-use Rattle.lines.specs.Text.{text}
-use Rattle.protocol.specs.declared.Answer.the-variants.{Refused}
+use Prim.Native.Nat.{ℕ, _-_}
+use lib.ListN.{length}
+use Rattle.waiting.specs.declared.Packet.{Packet}
+use Rattle.waiting.specs.Waiting.{waitingList, heldIn}
 use Rattle.protocol.specs.declared.Refusal.the-variants.{Format}
 use Rattle.protocol.specs.declared.Step.{Step}
 use Rattle.protocol.specs.declared.Step.the-variants.{Start}
@@ -14,38 +15,53 @@ use Rattle.protocol.proofs.Refusals.{refused-unchanged}
 use Rattle.records.specs.declared.Next.{Next}
 use Rattle.runs.specs.declared.Run.{Run}
 use Rattle.runs.specs.declared.Ran.{Ran}
-use Rattle.runs.specs.Runs.{Standing, standing, Gives, Concludes, concluded, continued, stepIn, standsAs}
+use Rattle.runs.specs.Runs.{Gives, Concludes, concluded, continued, readNext, nextPrinted, stepIn, standsAs, turnsLeft}
 
 -- a start that comes as a step changes nothing
 start-keeps : (m : Machine) → after m (Start 0) ≡ m
 unfolding answerTo decided refusing
 start-keeps m = refused-unchanged m (Start 0) Format refl
 
--- what a step gives, in the terms of the machine
-abbrev pub Steps : Machine → Step → Stepped → List ℕ → List ℕ → Type 0
-Steps m x t store opens =
-    (t .answer ≡ answerTo m x) × (t .state ≡ after m x .state) × (t .waiting ≡ after m x .waiting) × (store ≡ after m x .store) × (opens ≡ after m x .opens)
+-- the machine as a run is lent it, and what its step gives
+abbrev pub modelOf : Run → List ℕ → List ℕ → List Packet → Machine
+modelOf r store opens row = machine (r .state) store opens (waitingList row (r .count))
+
+abbrev pub steppedBy : Machine → Step → Stepped
+steppedBy m x = record { answer = answerTo m x; state = after m x .state; count = after m x .waiting .count }
 
 -- the turn, for each thing that may have been read
-turn : (r : Run) (store opens store' opens' : List ℕ) (f : Next) (t : Stepped) (ran : Ran)
-    → Steps (machine (r .state) store opens (r .waiting)) (stepIn f) t store' opens'
-    → Concludes ran (concluded r f t) → Gives ran store' opens' (continued (standsAs r store opens) f)
-unfolding standsAs
-turn r store opens store' opens' (Next.Record x at) t ran s d = record {
-  stands = rw (d .run, s .1, s .2, s .3, s .4) refl;
-  reads = rw (d .line, s .0, s .1, s .2) refl;
-}
-turn r store opens store' opens' Next.End t ran s d = record {
-  stands = rw (d .run, s .3, s .4, start-keeps (machine (r .state) store opens (r .waiting))) refl;
-  reads = d .line;
-}
-turn r store opens store' opens' Next.Malformed t ran s d = record {
-  stands = rw (d .run, s .3, s .4, start-keeps (machine (r .state) store opens (r .waiting))) refl;
-  reads = d .line;
-}
+module _ (r : Run) (store opens : List ℕ) (row : List Packet) where
+  abbrev next : Next → Machine
+  next f = after (modelOf r store opens row) (stepIn f)
 
-pub joined : (r : Run) (store opens store' opens' : List ℕ) (f : Next) (x : Step) (t : Stepped) (ran : Ran) → x ≡ stepIn f
-    → Steps (machine (r .state) store opens (r .waiting)) x t store' opens'
-    → Concludes ran (concluded r f t) → Gives ran store' opens' (continued (standsAs r store opens) f)
-joined r store opens store' opens' f x t ran e s d =
-    turn r store opens store' opens' f t ran (subst (λ y. Steps (machine (r .state) store opens (r .waiting)) y t store' opens') e s) d
+  pub turn-gives : (f : Next) → length (next f .waiting .packets) ≡ length row → (ran : Ran) (buffer out : List ℕ) (used : ℕ)
+      → Concludes ran buffer out used (concluded r f (length row) (steppedBy (modelOf r store opens row) (stepIn f)))
+      → Gives ran (next f .store) (next f .opens) (next f .waiting .packets) buffer (r .left - 1) out used (continued (standsAs r store opens row) f)
+  unfolding standsAs turnsLeft
+  turn-gives (Next.Record x at) same ran buffer out used d = record {
+    stands = rw (d .run) refl;
+    left = rw (d .run) refl;
+    place = rw same (d .place);
+    there = rw same (d .there);
+  }
+  turn-gives Next.End same ran buffer out used d = record {
+    stands = rw (d .run, start-keeps (modelOf r store opens row)) refl;
+    left = rw (d .run) refl;
+    place = d .place;
+    there = d .there;
+  }
+  turn-gives Next.Malformed same ran buffer out used d = record {
+    stands = rw (d .run, start-keeps (modelOf r store opens row)) refl;
+    left = rw (d .run) refl;
+    place = d .place;
+    there = d .there;
+  }
+
+  -- the same, of what is read in the input
+  pub next-gives : (input : List ℕ) → length (next (readNext input (r .over) (r .at)) .waiting .packets) ≡ length row
+      → (ran : Ran) (buffer out : List ℕ) (used : ℕ)
+      → Concludes ran buffer out used (concluded r (readNext input (r .over) (r .at)) (length row) (steppedBy (modelOf r store opens row) (stepIn (readNext input (r .over) (r .at)))))
+      → Gives ran (next (readNext input (r .over) (r .at)) .store) (next (readNext input (r .over) (r .at)) .opens) (next (readNext input (r .over) (r .at)) .waiting .packets) buffer (r .left - 1) out used
+      (nextPrinted input (standsAs r store opens row))
+  unfolding nextPrinted standsAs
+  next-gives input same ran buffer out used d = turn-gives (readNext input (r .over) (r .at)) same ran buffer out used d

@@ -7,9 +7,11 @@ use Prim.Native.Nat.{ℕ, zero, suc, _+_, _-_, _*_, _<_, _≤_}
 use native.Mathlib.Nat.{zero-add}
 use native.Mathlib.Omega.{arith}
 use lib.Dec.{ltb}
-use lib.ListN.{length, take, length-append}
+use lib.ListN.{length, take, replicate, length-append}
 use borrow.Author.Tests.{ltb-false}
 use Rattle.limits.specs as limits
+use Rattle.waiting.specs.declared.Packet.{Packet}
+use Rattle.waiting.specs.Waiting.{blank}
 use Rattle.operations.specs.{noneOpen}
 use Rattle.replicas.specs.Store.{emptyStore}
 use Rattle.protocol.specs.declared.Step.{Step}
@@ -22,7 +24,7 @@ use Rattle.lines.specs.Lines.{noLine}
 use Rattle.lines.specs.Text.{putIn, placeAfter}
 use Rattle.lines.proofs.Laws.{refusal-length, answer-length}
 use Rattle.lines.proofs.Text.{put-length, put-there, place-there}
-use Rattle.runs.specs.Runs.{Standing, Printed, continued, readNext, nextPrinted, turns, stopped, startedWith, opened, firstPrinted, printed, Filled, filled, filledWith}
+use Rattle.runs.specs.Runs.{Standing, Printed, continued, readNext, nextPrinted, turns, stopped, startedWith, opened, firstPrinted, begins, printed, Filled, filled, filledWith}
 use Rattle.runs.proofs.Ends.{over-prints, read-ahead, opened-ahead}
 
 -- ---- with room, every line is there
@@ -72,8 +74,12 @@ turns-short (suc k) input u within = go (readNext input (u .over) (u .at)) refl 
 
 -- ---- the whole output
 
+-- the places that the program lends
+abbrev row : List Packet
+row = replicate limits.waiting blank
+
 abbrev start : List ℕ → Printed
-start input = firstPrinted emptyStore noneOpen input
+start input = begins input
 
 -- WITH ROOM FOR IT, THE BUFFER HOLDS EVERYTHING THAT IS PRINTED
 pub print-whole : (input out : List ℕ) → length (printed input) ≤ length out → Holds (filledWith input out) (printed input)
@@ -86,7 +92,7 @@ print-whole input out room =
     (ap (λ (n : ℕ). take n (putIn out 0 line)) (place-there out 0 line fits) ∙ put-there out 0 line fits)
     (rw (put-length out 0 line) room)
 
-opened-short : (f : Next) → length (opened emptyStore noneOpen f .line) ≤ 58
+opened-short : (f : Next) → length (opened emptyStore noneOpen row f .line) ≤ 58
 unfolding stopped startedWith
 opened-short (Next.Record x n) = answer-length _ _ _ _
 opened-short Next.End = refusal-length _ _
@@ -98,11 +104,11 @@ unfolding printed firstPrinted stopped
 printed-short input = go (ltb limits.input (length input)) refl
   where
     at-first : Bool → Printed
-    at-first t = cond t (stopped emptyStore noneOpen (noLine 0 (refusalNumber InputTooLong))) (opened emptyStore noneOpen (nextAt input 0))
+    at-first t = cond t (stopped emptyStore noneOpen row (noLine 0 (refusalNumber InputTooLong))) (opened emptyStore noneOpen row (nextAt input 0))
 
     go : (t : Bool) → ltb limits.input (length input) ≡ t → length (at-first t .line ++ turns (length input) input (at-first t .then)) ≤ 1048576
     go true e = rw (over-prints (length input) input (at-first true .then) refl) (simp length-append (omega (arith, refusal-length 0 (refusalNumber InputTooLong))))
-    go false e = elim (opened-ahead emptyStore noneOpen input (nextAt input 0) refl) [
+    go false e = elim (opened-ahead emptyStore noneOpen row input (nextAt input 0) refl) [
       | inl o ↦ rw (over-prints (length input) input (at-first false .then) o) (simp length-append (omega (arith, opened-short (nextAt input 0))))
       | inr p ↦ omega (arith, length-append (at-first false .line) (turns (length input) input (at-first false .then)), opened-short (nextAt input 0), turns-short (length input) input (at-first false .then) (p .1), ltb-false limits.input (length input) e)
     ]

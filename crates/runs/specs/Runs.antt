@@ -2,12 +2,13 @@
 use mathlib.Core.Path.{_≡_}
 use mathlib.Core.Bool.{Bool, true, false, cond}
 use mathlib.Core.List.{List, [], _∷_, _++_}
-use Prim.Native.Nat.{ℕ, zero, suc, _+_, _≤_}
+use Prim.Native.Nat.{ℕ, zero, suc, _+_, _-_, _≤_}
 use lib.Dec.{eqb, ltb}
-use lib.ListN.{length, take}
+use lib.ListN.{length, take, replicate}
 use Rattle.limits.specs as limits
 use Rattle.switch.specs.DirtySet.{countedMarks}
-use Rattle.waiting.specs.Waiting.{held, noneWait}
+use Rattle.waiting.specs.declared.Packet.{Packet}
+use Rattle.waiting.specs.Waiting.{blank, waitingList, held, heldIn, noneWait}
 use Rattle.protocol.specs.declared.Refusal.the-variants.{Format, InputTooLong}
 use Rattle.protocol.specs.declared.Step.{Step}
 use Rattle.protocol.specs.declared.Step.the-variants.{Start, BeginRead, BeginWrite, Deliver, Lose, Repeat, Advance, Replace, Tell, Remove, GiveUp}
@@ -17,11 +18,12 @@ use Rattle.protocol.specs.Steps.{Machine, machine, answerTo, after, startRefuse
 use Rattle.records.specs.declared.Next.{Next}
 use Rattle.records.specs.Records.{nextAt}
 use Rattle.lines.specs.Lines.{lineOf, noLine}
-use Rattle.lines.specs.Text.{text, putIn, placeAfter}
+use Rattle.lines.specs.Text.{putIn, placeAfter}
 use Rattle.operations.specs.{noneOpen}
 use Rattle.replicas.specs.Store.{emptyStore}
 use Rattle.runs.specs.declared.Run.{Run}
 use Rattle.runs.specs.declared.Ran.{Ran}
+use Rattle.runs.specs.declared.Turn.{Turn}
 
 -- how a run stands between two records: the machine, where the next record begins, its number, and whether the run is over
 pub record Standing : Type 0 where
@@ -41,7 +43,7 @@ pub record Printed : Type 0 where
 abbrev pub prints : Standing → List ℕ → Printed
 prints u l = record { then = u; line = l }
 
--- ---- the first record
+-- ---- the first record. A run is lent the store, the open operations and the places of the waiting list, whatever they hold
 
 -- the number of replicas of a start; a first record that is read is always one
 abbrev pub replicasOf : Step → ℕ
@@ -57,27 +59,27 @@ replicasOf (Tell r) = 0
 replicasOf (Remove r) = 0
 replicasOf (GiveUp o) = 0
 
--- no state and nothing run: the run is over, and the lent buffers are as they were
-unfoldable pub stopped : List ℕ → List ℕ → List ℕ → Printed
-stopped store opens line = prints (standing (machine (startState 0) store opens noneWait) 0 1 true) line
+-- no state and nothing run: the run is over, and what is lent is as it was
+unfoldable pub stopped : List ℕ → List ℕ → List Packet → List ℕ → Printed
+stopped store opens row line = prints (standing (machine (startState 0) store opens (noneWait row)) 0 1 true) line
 
 -- the line of a start; 'After 1 or 2 it ends'
-unfoldable pub startedWith : List ℕ → List ℕ → ℕ → ℕ → Printed
-startedWith store opens n at =
-    prints (standing (machine (startState n) (startStore n store) (startOpens n opens) noneWait) at 2 (startRefused n))
+unfoldable pub startedWith : List ℕ → List ℕ → List Packet → ℕ → ℕ → Printed
+startedWith store opens row n at =
+    prints (standing (machine (startState n) (startStore n store) (startOpens n opens) (noneWait row)) at 2 (startRefused n))
     (lineOf 1 (startAnswer n .answer) 0 0)
 
 -- 'Empty input prints only `1 no 1`', and so does any input that begins with no start
-abbrev pub opened : List ℕ → List ℕ → Next → Printed
-opened store opens (Next.Record x at) = startedWith store opens (replicasOf x) at
-opened store opens Next.End = stopped store opens (noLine 1 (refusalNumber Format))
-opened store opens Next.Malformed = stopped store opens (noLine 1 (refusalNumber Format))
+abbrev pub opened : List ℕ → List ℕ → List Packet → Next → Printed
+opened store opens row (Next.Record x at) = startedWith store opens row (replicasOf x) at
+opened store opens row Next.End = stopped store opens row (noLine 1 (refusalNumber Format))
+opened store opens row Next.Malformed = stopped store opens row (noLine 1 (refusalNumber Format))
 
 -- '14 prints only `0 no 14`'
-unfoldable pub firstPrinted : List ℕ → List ℕ → List ℕ → Printed
-firstPrinted store opens input =
-    cond (ltb limits.input (length input)) (stopped store opens (noLine 0 (refusalNumber InputTooLong)))
-    (opened store opens (nextAt input 0))
+unfoldable pub firstPrinted : List ℕ → List ℕ → List Packet → List ℕ → Printed
+firstPrinted store opens row input =
+    cond (ltb limits.input (length input)) (stopped store opens row (noLine 0 (refusalNumber InputTooLong)))
+    (opened store opens row (nextAt input 0))
 
 -- ---- every later record
 
@@ -112,10 +114,13 @@ unfoldable pub turns : ℕ → List ℕ → Standing → List ℕ
 turns zero input u = []
 turns (suc k) input u = nextPrinted input u .line ++ turns k input (nextPrinted input u .then)
 
+-- the first record of a run that is lent blank places for the waiting list
+abbrev pub begins : List ℕ → Printed
+begins input = firstPrinted emptyStore noneOpen (replicate limits.waiting blank) input
+
 -- EVERYTHING THAT THE PROGRAM PRINTS FOR AN INPUT. No input has more records than bytes
 unfoldable pub printed : List ℕ → List ℕ
-printed input =
-    firstPrinted emptyStore noneOpen input .line ++ turns (length input) input (firstPrinted emptyStore noneOpen input .then)
+printed input = begins input .line ++ turns (length input) input (begins input .then)
 
 -- ---- the output in a lent buffer
 
@@ -133,8 +138,7 @@ filled (suc k) input u out used =
 -- the whole run of an input
 unfoldable pub filledWith : List ℕ → List ℕ → Filled
 filledWith input out =
-    filled (length input) input (firstPrinted emptyStore noneOpen input .then) (putIn out 0 (firstPrinted emptyStore noneOpen input .line))
-    (placeAfter out 0 (firstPrinted emptyStore noneOpen input .line))
+    filled (length input) input (begins input .then) (putIn out 0 (begins input .line)) (placeAfter out 0 (begins input .line))
 
 -- the first n bytes of a buffer may be lent on: n counts them
 abbrev pub InUse : ℕ → List ℕ → Type 0
@@ -142,40 +146,50 @@ InUse n out = (n ≤ length out) × (n ≡ length (take n out))
 
 -- ---- the code's structs
 
--- a run as it stands, with what the lent buffers hold
-unfoldable pub standsAs : Run → List ℕ → List ℕ → Standing
-standsAs r store opens = standing (machine (r .state) store opens (r .waiting)) (r .at) (r .number) (r .over)
+-- a run as it stands, with what it is lent
+unfoldable pub standsAs : Run → List ℕ → List ℕ → List Packet → Standing
+standsAs r store opens row = standing (machine (r .state) store opens (waitingList row (r .count))) (r .at) (r .number) (r .over)
 
--- a run with its line, and what the lent buffers hold then, are these
-pub record Gives (r : Ran) (store : List ℕ) (opens : List ℕ) (p : Printed) : Type 0 where
-  pub stands : standsAs (r .run) store opens ≡ p .then
-  pub reads : text (r .line) ≡ p .line
+-- the turns that are left to a run: none once it is over
+unfoldable pub turnsLeft : Bool → ℕ → ℕ
+turnsLeft over k = cond over 0 k
 
--- the step of what was read; where none was, one that the machine refuses
+-- a run after a record, what it is lent then, and a buffer with its line at a place, are these; k is the number of turns that are left unless it is over
+pub record Gives (r : Ran) (store : List ℕ) (opens : List ℕ) (row : List Packet) (buffer : List ℕ) (k : ℕ) (out : List ℕ) (used : ℕ) (p : Printed) : Type 0 where
+  pub stands : standsAs (r .run) store opens row ≡ p .then
+  pub left : r .run .left ≡ turnsLeft (p .then .over) k
+  pub place : r .used ≡ placeAfter out used (p .line)
+  pub there : buffer ≡ putIn out used (p .line)
+
+-- what is read, and its step; where none is read, one that the machine refuses
 abbrev pub stepIn : Next → Step
 stepIn (Next.Record x at) = x
 stepIn Next.End = Start 0
 stepIn Next.Malformed = Start 0
+
+abbrev pub turnOf : Next → Turn
+turnOf f = record { found = f; step = stepIn f }
 
 -- the run after a step, and its line, from what was read and what the step gave
 pub record Concluded : Type 0 where
   pub run : Run
   pub line : List ℕ
 
-pub record Concludes (r : Ran) (d : Concluded) : Type 0 where
+pub record Concludes (r : Ran) (buffer : List ℕ) (out : List ℕ) (used : ℕ) (d : Concluded) : Type 0 where
   pub run : r .run ≡ d .run
-  pub line : text (r .line) ≡ d .line
+  pub place : r .used ≡ placeAfter out used (d .line)
+  pub there : buffer ≡ putIn out used (d .line)
 
 abbrev pub overRun : Run → Run
-overRun r = record { state = r .state; waiting = r .waiting; at = r .at; number = r .number; over = true }
+overRun r = record { state = r .state; count = r .count; at = r .at; number = r .number; over = true; left = 0 }
 
-abbrev pub goingOn : ℕ → ℕ → Stepped → Concluded
-goingOn k at t = record {
-  run = record { state = t .state; waiting = t .waiting; at = at; number = nextNumber k; over = false };
-  line = lineOf k (t .answer) (held (t .waiting)) (countedMarks (t .state .switch));
+abbrev pub goingOn : Run → ℕ → ℕ → Stepped → Concluded
+goingOn r at places t = record {
+  run = record { state = t .state; count = t .count; at = at; number = nextNumber (r .number); over = false; left = r .left - 1 };
+  line = lineOf (r .number) (t .answer) (heldIn places (t .count)) (countedMarks (t .state .switch));
 }
 
-abbrev pub concluded : Run → Next → Stepped → Concluded
-concluded r (Next.Record x at) t = goingOn (r .number) at t
-concluded r Next.End t = record { run = overRun r; line = [] }
-concluded r Next.Malformed t = record { run = overRun r; line = noLine (r .number) (refusalNumber Format) }
+abbrev pub concluded : Run → Next → ℕ → Stepped → Concluded
+concluded r (Next.Record x at) places t = goingOn r at places t
+concluded r Next.End places t = record { run = overRun r; line = [] }
+concluded r Next.Malformed places t = record { run = overRun r; line = noLine (r .number) (refusalNumber Format) }

@@ -1,16 +1,20 @@
-// The run of one input: a line for each record, one at a time.
+// The run of one input: a line for each record, one at a time, into a lent buffer.
 ghost use mathlib.Core.Path.{_≡_};
-ghost use mathlib.Core.Bool.{cond};
-ghost use Prim.Native.Nat.{_≤_};
-ghost use lib.ListN.{length};
+ghost use Prim.Native.Nat.{ℕ, _-_};
+ghost use mathlib.Core.List.{List};
+ghost use lib.ListN.{length, replicate};
+ghost use Rattle.limits.specs as limits;
+ghost use Rattle.waiting.specs.declared.Packet.{Packet};
+ghost use Rattle.waiting.specs.Waiting.{blank};
 ghost use Rattle.protocol.specs.Answers.{refusalNumber};
 ghost use Rattle.protocol.specs.declared.Refusal.the-variants.{Format};
 ghost use Rattle.lines.specs.Lines.{noLine};
-ghost use Rattle.runs.specs.Runs.{Gives, filled, filledWith, InUse, Concludes, goingOn, overRun, nextNumber, standsAs, readNext, stepIn, concluded, nextPrinted, replicasOf, stopped, startedWith, firstPrinted};
 ghost use Rattle.lines.specs.Text.{text};
+ghost use Rattle.runs.specs.Runs.{Gives, Concludes, turnsLeft, nextNumber, standsAs, readNext, turnOf, goingOn, overRun, concluded, nextPrinted, replicasOf, stopped, startedWith, firstPrinted, filled, filledWith, InUse};
 use limits::INPUT;
 use limits::OPEN;
 use limits::Operation;
+use limits::WAITING;
 use lines::Line;
 use protocol::Refusal;
 use protocol::State;
@@ -18,21 +22,47 @@ use protocol::Step;
 use protocol::Stepped;
 use records::Next;
 use replicas::CELLS;
-use waiting::WaitingList;
+use waiting::Packet;
 
-// How a run stands between two records; the store and the open operations are lent. `at` is where the next record begins, `number` its number.
+// How a run stands between two records; the store, the open operations and the packets are lent, and `count` of those wait. `at` is where the next record
+// begins, `number` its number, and `left` bounds the records that follow: none once the run is over.
 pub struct Run {
     pub state: State,
-    pub waiting: WaitingList,
+    pub count: usize,
     pub at: usize,
     pub number: u32,
     pub over: bool,
+    pub left: usize,
 }
 
-// How a run stands after a record, and the line that is printed for it, empty where none is.
+// How a run stands after a record, and the place after its line.
 pub struct Ran {
     pub run: Run,
-    pub line: Line,
+    pub used: usize,
+}
+
+// What is read, and the step that the machine is handed.
+struct Turn {
+    found: Next,
+    step: Step,
+}
+
+fn turns_left(over: bool, turns: usize) -> usize
+    ensures { λ r. ⌜ r ≡ turnsLeft over turns ⌝ }
+{
+    if over {
+        return 0;
+    }
+    turns
+}
+
+fn one_fewer(turns: usize) -> usize
+    ensures { λ r. ⌜ r ≡ turns - 1 ⌝ }
+{
+    if turns == 0 {
+        return 0;
+    }
+    turns - 1
 }
 
 fn next_number(k: u32) -> u32
@@ -51,66 +81,78 @@ fn read_next(input: &[u8], over: bool, at: usize) -> Next
     if over {
         return Next::End;
     }
-    records::next_at(input, at)
+    records::read_at(input, at)
 }
 
-// The step of what was read; where none was, one that the machine refuses, so that it changes nothing.
-fn step_in(found: Next) -> Step
-    ensures { λ r. ⌜ r ≡ stepIn found ⌝ }
+// Where no step is read, the machine is handed one that it refuses, so that it changes nothing.
+fn turn_of(found: Next) -> Turn
+    ensures { λ r. ⌜ r ≡ turnOf found ⌝ }
 {
     match found {
-        Next::Record(x, at) => x,
-        Next::End => Step::Start(0),
-        Next::Malformed => Step::Start(0),
+        Next::Record(x, at) => Turn { found, step: x },
+        Next::End => Turn {
+            found,
+            step: Step::Start(0),
+        },
+        Next::Malformed => Turn {
+            found,
+            step: Step::Start(0),
+        },
     }
 }
 
-// The run after the step of record `number`, with its line; the next record is at `at`.
-fn go_on(number: u32, at: usize, done: Stepped) -> Ran
-    ensures { λ r. ⌜ Concludes r (goingOn number at done) ⌝ }
+fn look(input: &[u8], over: bool, at: usize) -> Turn
+    ensures { λ r. ⌜ r ≡ turnOf (readNext (now (input .entry)) over at) ⌝ }
+{
+    turn_of(read_next(input, over, at))
+}
+
+// The run after a step, with its line in the buffer; the next record is at `at`.
+fn go_on(
+    run: Run,
+    at: usize,
+    places: usize,
+    done: Stepped,
+    out: &mut [u8],
+    used: usize,
+) -> Ran
+    ensures { λ r. ⌜ Concludes r (now (out .exit)) (now (out .entry)) used (goingOn run at places done) ⌝ }
 {
     let state = done.state;
-    let waiting = done.waiting;
+    let count = done.count;
     let switch = state.switch;
     let answer = done.answer;
-    let line = lines::of_answer(number, answer, waiting.held(), switch.count());
-    let number = next_number(number);
+    let line = lines::of_answer(run.number, answer, waiting::held(places, count), switch.count());
+    let number = next_number(run.number);
+    let left = one_fewer(run.left);
+    let used = lines::append(line, out, used);
     let run = Run {
         state,
-        waiting,
+        count,
         at,
         number,
         over: false,
+        left,
     };
-    Ran { run, line }
+    Ran { run, used }
 }
 
-// The run is over, with a last line.
-fn end(run: Run, line: Line) -> Ran
-    ensures { λ r. ⌜ (r .run ≡ overRun run) × (r .line ≡ line) ⌝ }
+// The run is over, with a last line in the buffer.
+fn end(run: Run, line: Line, out: &mut [u8], used: usize) -> Ran
+    ensures { λ r. ⌜ Concludes r (now (out .exit)) (now (out .entry)) used (record { run = overRun run; line = text line }) ⌝ }
 {
     let state = run.state;
-    let waiting = run.waiting;
+    let used = lines::append(line, out, used);
     let over = true;
     let run = Run {
         state,
-        waiting,
+        count: run.count,
         at: run.at,
         number: run.number,
         over,
+        left: 0,
     };
-    Ran { run, line }
-}
-
-// The run after what was read, whose step gave `done`.
-fn conclude(run: Run, found: Next, done: Stepped) -> Ran
-    ensures { λ r. ⌜ Concludes r (concluded run found done) ⌝ }
-{
-    match found {
-        Next::Record(x, at) => go_on(run.number, at, done),
-        Next::End => end(run, lines::empty()),
-        Next::Malformed => end(run, malformed(run.number)),
-    }
+    Ran { run, used }
 }
 
 // The line of a record that is refused by 1.
@@ -120,15 +162,41 @@ fn malformed(number: u32) -> Line
     lines::of_refusal(number, lines::refusal_number(Refusal::Format))
 }
 
-// The next record of a run: its step is done, and its line handed back.
-pub fn next(input: &[u8], run: Run, cells: &mut [u32; CELLS], opens: &mut [Operation; OPEN]) -> Ran
-    ensures { λ r. ⌜ Gives r (now (cells .exit)) (now (opens .exit)) (nextPrinted (now (input .entry)) (standsAs run (now (cells .entry)) (now (opens .entry)))) ⌝ }
+// The run after what was read, whose step gave `done`. There are so many places for packets.
+fn conclude(
+    run: Run,
+    found: Next,
+    places: usize,
+    done: Stepped,
+    out: &mut [u8],
+    used: usize,
+) -> Ran
+    ensures { λ r. ⌜ Concludes r (now (out .exit)) (now (out .entry)) used (concluded run found places done) ⌝ }
 {
-    let found = read_next(input, run.over, run.at);
-    let state = run.state;
-    let waiting = run.waiting;
-    let done = machine::step(state, &mut *cells, &mut *opens, waiting, step_in(found));
-    conclude(run, found, done)
+    match found {
+        Next::Record(x, at) => go_on(run, at, places, done, out, used),
+        Next::End => end(run, lines::empty(), out, used),
+        Next::Malformed => end(run, malformed(run.number), out, used),
+    }
+}
+
+// The next record of a run: its step is done, and its line goes into the buffer at the place `used`.
+pub fn next(
+    input: &[u8],
+    run: Run,
+    cells: &mut [u32; CELLS],
+    opens: &mut [Operation; OPEN],
+    packets: &mut [Packet],
+    out: &mut [u8],
+    used: usize,
+) -> Ran
+    ensures { λ r. ⌜ Gives r (now (cells .exit)) (now (opens .exit)) (now (packets .exit)) (now (out .exit)) (run .left - 1) (now (out .entry)) used
+        (nextPrinted (now (input .entry)) (standsAs run (now (cells .entry)) (now (opens .entry)) (now (packets .entry)))) ⌝ }
+{
+    let places = packets.len();
+    let turn = look(input, run.over, run.at);
+    let done = machine::step(run.state, cells, opens, packets, run.count, turn.step);
+    conclude(run, turn.found, places, done, out, used)
 }
 
 fn replicas_of(x: Step) -> u8
@@ -149,70 +217,114 @@ fn replicas_of(x: Step) -> u8
     }
 }
 
-// Nothing is run: a start of no replicas is refused, and leaves the lent buffers as they were.
-fn stop(cells: &mut [u32; CELLS], opens: &mut [Operation; OPEN], line: Line) -> Ran
-    ensures { λ r. ⌜ Gives r (now (cells .exit)) (now (opens .exit)) (stopped (now (cells .entry)) (now (opens .entry)) (text line)) ⌝ }
+// Nothing is run: a start of no replicas is refused, and leaves what is lent as it was.
+fn stop(
+    line: Line,
+    cells: &mut [u32; CELLS],
+    opens: &mut [Operation; OPEN],
+    out: &mut [u8],
+) -> Ran
+    ensures { λ r. ⌜ ((row : List Packet) (k : ℕ) → Gives r (now (cells .exit)) (now (opens .exit)) row (now (out .exit)) k (now (out .entry)) 0
+        (stopped (now (cells .entry)) (now (opens .entry)) row (text line))) ⌝ }
 {
     let none = machine::start(0, &mut *cells, &mut *opens);
+    let used = lines::append(line, &mut *out, 0);
     let state = none.state;
-    let waiting = none.waiting;
     let run = Run {
         state,
-        waiting,
+        count: none.count,
         at: 0,
         number: 1,
         over: true,
+        left: 0,
     };
-    Ran { run, line }
+    Ran { run, used }
 }
 
-// The run after a start with n replicas, with its line; the next record is at `at`.
-fn start_with(n: u8, at: usize, cells: &mut [u32; CELLS], opens: &mut [Operation; OPEN]) -> Ran
-    ensures { λ r. ⌜ Gives r (now (cells .exit)) (now (opens .exit)) (startedWith (now (cells .entry)) (now (opens .entry)) n at) ⌝ }
+// The run after a start with n replicas; the next record is at `at`, and at most so many turns follow.
+fn start_with(
+    n: u8,
+    at: usize,
+    turns: usize,
+    cells: &mut [u32; CELLS],
+    opens: &mut [Operation; OPEN],
+    out: &mut [u8],
+) -> Ran
+    ensures { λ r. ⌜ ((row : List Packet) → Gives r (now (cells .exit)) (now (opens .exit)) row (now (out .exit)) turns (now (out .entry)) 0
+        (startedWith (now (cells .entry)) (now (opens .entry)) row n at)) ⌝ }
 {
     let begun = machine::start(n, &mut *cells, &mut *opens);
     let over = machine::start_refused(n);
     let answer = begun.answer;
     let line = lines::of_answer(1, answer, 0, 0);
+    let used = lines::append(line, &mut *out, 0);
+    let left = turns_left(over, turns);
     let state = begun.state;
-    let waiting = begun.waiting;
     let run = Run {
         state,
-        waiting,
+        count: begun.count,
         at,
         number: 2,
         over,
+        left,
     };
-    Ran { run, line }
+    Ran { run, used }
 }
 
-// The first record of an input: a start, or what is refused in its place.
-pub fn first(input: &[u8], cells: &mut [u32; CELLS], opens: &mut [Operation; OPEN]) -> Ran
-    ensures { λ r. ⌜ Gives r (now (cells .exit)) (now (opens .exit)) (firstPrinted (now (cells .entry)) (now (opens .entry)) (now (input .entry))) ⌝ }
+// The first record of an input: a start, or what is refused in its place. Its line goes to the buffer's start.
+pub fn first(
+    input: &[u8],
+    cells: &mut [u32; CELLS],
+    opens: &mut [Operation; OPEN],
+    out: &mut [u8],
+) -> Ran
+    ensures { λ r. ⌜ ((row : List Packet) → Gives r (now (cells .exit)) (now (opens .exit)) row (now (out .exit)) (length (now (input .entry))) (now (out .entry)) 0
+        (firstPrinted (now (cells .entry)) (now (opens .entry)) row (now (input .entry)))) ⌝ }
 {
-    if INPUT < input.len() {
-        let refusal = lines::refusal_number(Refusal::InputTooLong);
-        return stop(&mut *cells, &mut *opens, lines::of_refusal(0, refusal));
+    let turns = input.len();
+    if INPUT < turns {
+        let line = lines::of_refusal(0, lines::refusal_number(Refusal::InputTooLong));
+        return stop(line, &mut *cells, &mut *opens, &mut *out);
     }
-    match records::next_at(input, 0) {
-        Next::Record(x, at) => start_with(replicas_of(x), at, &mut *cells, &mut *opens),
-        Next::End => stop(&mut *cells, &mut *opens, malformed(1)),
-        Next::Malformed => stop(&mut *cells, &mut *opens, malformed(1)),
+    match records::read_at(input, 0) {
+        Next::Record(x, at) => start_with(
+            replicas_of(x),
+            at,
+            turns,
+            &mut *cells,
+            &mut *opens,
+            &mut *out,
+        ),
+        Next::End => stop(malformed(1), &mut *cells, &mut *opens, &mut *out),
+        Next::Malformed => stop(malformed(1), &mut *cells, &mut *opens, &mut *out),
     }
 }
 
-// How many turns are left to a run: none once it is over.
-fn turns_left(turns: usize, over: bool) -> usize
-    ensures { λ r. ⌜ (r ≡ cond over 0 turns) × (r ≤ turns) ⌝ }
-{
-    if over {
-        return 0;
-    }
-    turns
-}
-
-// The lines of the records that follow go into `out`, one after the other, from the place `used` on. The place after them.
+// The lines of the records that follow go into the buffer, one after the other, from the place `used` on. The place after them.
 fn print_rest(
+    input: &[u8],
+    run: Run,
+    cells: &mut [u32; CELLS],
+    opens: &mut [Operation; OPEN],
+    packets: &mut [Packet],
+    out: &mut [u8],
+    used: usize,
+) -> usize
+    ensures { λ r. ⌜ (r ≡ filled (run .left) (now (input .entry)) (standsAs run (now (cells .entry)) (now (opens .entry)) (now (packets .entry))) (now (out .entry)) used .used)
+        × (now (out .exit) ≡ filled (run .left) (now (input .entry)) (standsAs run (now (cells .entry)) (now (opens .entry)) (now (packets .entry))) (now (out .entry)) used .out) ⌝ }
+{
+    let mut run = run;
+    let mut used = used;
+    while 0 < run.left {
+        let ran = next(input, run, cells, opens, packets, out, used);
+        run = ran.run;
+        used = ran.used;
+    }
+    used
+}
+
+// The same, with places for the packets made here.
+fn print_from(
     input: &[u8],
     run: Run,
     cells: &mut [u32; CELLS],
@@ -220,31 +332,22 @@ fn print_rest(
     out: &mut [u8],
     used: usize,
 ) -> usize
-    ensures { λ r. ⌜ (r ≡ filled (length (now (input .entry))) (now (input .entry)) (standsAs run (now (cells .entry)) (now (opens .entry))) (now (out .entry)) used .used)
-        × (now (out .exit) ≡ filled (length (now (input .entry))) (now (input .entry)) (standsAs run (now (cells .entry)) (now (opens .entry))) (now (out .entry)) used .out) ⌝ }
+    ensures { λ r. ⌜ (r ≡ filled (run .left) (now (input .entry)) (standsAs run (now (cells .entry)) (now (opens .entry)) (replicate limits.waiting blank)) (now (out .entry)) used .used)
+        × (now (out .exit) ≡ filled (run .left) (now (input .entry)) (standsAs run (now (cells .entry)) (now (opens .entry)) (replicate limits.waiting blank)) (now (out .entry)) used .out) ⌝ }
 {
-    let mut run = run;
-    let mut used = used;
-    let mut turns = turns_left(input.len(), run.over);
-    while 0 < turns {
-        let ran = next(input, run, &mut *cells, &mut *opens);
-        used = lines::append(ran.line, &mut *out, used);
-        run = ran.run;
-        turns = turns_left(turns - 1, run.over);
-    }
-    used
+    let mut packets = [Packet::blank(); WAITING];
+    print_rest(input, run, cells, opens, &mut packets, out, used)
 }
 
-// Everything that the run program prints for an input, into `out`. How many bytes that is.
+// Everything that the run program prints for an input, into the buffer. How many bytes that is.
 pub fn print(input: &[u8], out: &mut [u8]) -> usize
     ensures { λ r. ⌜ (r ≡ filledWith (now (input .entry)) (now (out .entry)) .used) × (now (out .exit) ≡ filledWith (now (input .entry)) (now (out .entry)) .out) ⌝ }
     ensures { λ r. ⌜ InUse r (now (out .exit)) ⌝ }
 {
     let mut cells = [0; CELLS];
     let mut opens = [0; OPEN];
-    let ran = first(input, &mut cells, &mut opens);
-    let used = lines::append(ran.line, &mut *out, 0);
-    print_rest(input, ran.run, &mut cells, &mut opens, &mut *out, used)
+    let ran = first(input, &mut cells, &mut opens, &mut *out);
+    print_from(input, ran.run, &mut cells, &mut opens, &mut *out, ran.used)
 }
 
 // Room for the longest input and one byte more, which tells an input that is too long.

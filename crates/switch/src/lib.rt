@@ -11,6 +11,7 @@ use limits::Stamp;
 pub const SLOTS: usize = 48;
 
 // A slot whose stamp is (0,0) holds nothing.
+#[repr(C)]
 pub struct Switch {
     pub number: Number,
     pub counter: Counter,

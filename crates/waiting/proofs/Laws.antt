@@ -2,87 +2,98 @@
 use mathlib.Core.Path.{_≡_, refl, sym, ap, _∙_}
 use mathlib.Core.Bool.{Bool, true, false, cond}
 use mathlib.Core.List.{List, [], _∷_, _++_, append-assoc, append-nil}
-use Prim.Native.Nat.{ℕ, _+_, _-_, _≤_, _<_, min}
-use native.Mathlib.Decide.{decLe}
+use Prim.Native.Nat.{ℕ, _+_, _-_, _≤_, _<_}
 use native.Mathlib.Numerals.{add-one}
 use native.Mathlib.Omega.{arith}
 use lib.Dec.{leb, ltb}
-use lib.ListN.{length, getD, set, take, length-take, length-set, length-append, length-replicate, List·getD-eq-default}
-use lib.Seq.{getD-take, take-all, take-suc-set}
+use lib.ListN.{length, getD, set, take, length-take, length-set, length-append, List·getD-eq-default}
+use lib.Seq.{getD-take, take-suc-set}
 use borrow.Author.Tests.{ltb-true, ltb-false, lt-ltb}
 use Rattle.limits.specs as limits
 use Rattle.lists.specs.{moves, without}
 use Rattle.lists.proofs.Closing.{length-moves, length-without, take-moves}
 use Rattle.waiting.specs.declared.Packet.{Packet}
 use Rattle.waiting.specs.declared.Edit.{Edit}
-use Rattle.waiting.specs.declared.WaitingList.{WaitingList}
-use Rattle.waiting.specs.Waiting.{blank, waits, held, noneWait, lookAt, takenOut, putLast, added, afterTaking, edited}
+use Rattle.waiting.specs.Waiting.{WaitingList, waitingList, blank, placesIn, heldIn, places, held, waits, noneWait, lookAt, takenOut, putLast, added, afterTaking, edited}
 
-pub length-waits : (w : WaitingList) → length (waits w) ≡ held w
-unfolding waits held
-length-waits w = length-take (w .count) (w .packets)
+-- a list holds no more packets than its row has places, and no more than 64
+pub held-in : (length count : ℕ) → (heldIn length count ≤ length) × (heldIn length count ≤ limits.waiting)
+unfolding heldIn placesIn
+held-in length count = (omega arith, omega arith)
+
+-- a count that the places allow
+held-is : (length count : ℕ) → count ≤ placesIn length → heldIn length count ≡ count
+unfolding heldIn
+held-is length count h = omega arith
+
+places-in : (length : ℕ) → placesIn length ≤ length
+unfolding placesIn
+places-in length = omega arith
 
 pub held-within : (w : WaitingList) → held w ≤ length (w .packets)
-unfolding held
-held-within w = omega arith
+held-within w = held-in (length (w .packets)) (w .count) .0
 
--- past the end of a list there is nothing to take
-take-min : (n : ℕ) (l : List Packet) → take n l ≡ take (min n (length l)) l
-take-min n l = elim (decLe n (length l)) [ yes h ↦ inside h | no h ↦ past h ]
-  where
-    inside : n ≤ length l → take n l ≡ take (min n (length l)) l
-    inside h =
-        let e : n ≡ min n (length l) = omega arith in
-        ap (λ (k : ℕ). take k l) e
+pub held-most : (w : WaitingList) → held w ≤ limits.waiting
+held-most w = held-in (length (w .packets)) (w .count) .1
 
-    past : ¬ (n ≤ length l) → take n l ≡ take (min n (length l)) l
-    past h = take-all n l (omega arith) ∙ sym (take-all (min n (length l)) l (omega arith))
+pub held-places : (w : WaitingList) → held w ≤ places w
+unfolding heldIn
+held-places w = omega arith
 
--- so a count past the row's end changes nothing of what waits
-waits-held : (w : WaitingList) → waits w ≡ take (held w) (w .packets)
-unfolding waits held
-waits-held w = take-min (w .count) (w .packets)
+pub length-waits : (w : WaitingList) → length (waits w) ≡ held w
+unfolding waits
+length-waits w = length-take (held w) (w .packets) ∙ omega (arith, held-within w)
 
 -- no packet behind the last that waits is ever seen
 pub look-is : (w : WaitingList) (i : ℕ) → lookAt w i ≡ getD (waits w) i blank
-unfolding lookAt
+unfolding lookAt waits
 look-is w i = go (ltb i (held w)) refl
   where
     go : (t : Bool) → ltb i (held w) ≡ t → cond (ltb i (held w)) (getD (w .packets) i blank) blank ≡ getD (waits w) i blank
-    go true e = rw (e, waits-held w) (sym (getD-take (held w) (w .packets) i blank (ltb-true i (held w) e)))
+    go true e = rw e (sym (getD-take (held w) (w .packets) i blank (ltb-true i (held w) e)))
     go false e = rw e (sym (List·getD-eq-default (waits w) blank (omega (arith, length-waits w, ltb-false i (held w) e))))
 
-pub waits-none : waits noneWait ≡ []
-unfolding waits noneWait
-waits-none = refl
+pub waits-none : (row : List Packet) → waits (noneWait row) ≡ []
+unfolding waits noneWait heldIn
+waits-none row =
+    let none : held (noneWait row) ≡ 0 = omega arith in
+    ap (λ (k : ℕ). take k row) none
 
 -- the two operations where their tests pass
-put-is : (w : WaitingList) (p : Packet) → held w < length (w .packets) →
-    putLast w p ≡ record { packets = set (w .packets) (held w) p; count = held w + 1 }
+put-is : (w : WaitingList) (p : Packet) → held w < places w → putLast w p ≡ waitingList (set (w .packets) (held w) p) (held w + 1)
 unfolding putLast
-put-is w p h = rw (lt-ltb (held w) (length (w .packets)) h)
+put-is w p h = rw (lt-ltb (held w) (places w) h)
 
-taken-is : (w : WaitingList) (at : ℕ) → at < held w →
-    takenOut w at ≡ record { packets = moves blank (w .packets) at (held w - 1 - at); count = held w - 1 }
+taken-is : (w : WaitingList) (at : ℕ) → at < held w → takenOut w at ≡ waitingList (moves blank (w .packets) at (held w - 1 - at)) (held w - 1)
 unfolding takenOut
 taken-is w at h = rw (lt-ltb at (held w) h)
 
--- 'New packets go to the end', where there is room
-pub waits-put : (w : WaitingList) (p : Packet) → held w < length (w .packets) → waits (putLast w p) ≡ waits w ++ p ∷ []
+-- what waits in a row of the same length, at a count that its places allow
+waits-at : (w : WaitingList) (l : List Packet) (n : ℕ) → length l ≡ length (w .packets) → n ≤ places w → waits (waitingList l n) ≡ take n l
 unfolding waits
-waits-put w p h = ap waits (put-is w p h) ∙ rw (add-one, waits-held w) (take-suc-set (w .packets) (held w) p h)
+waits-at w l n e h = ap (λ (k : ℕ). take k l) (ap (λ (k : ℕ). heldIn k n) e ∙ held-is (length (w .packets)) n h)
+
+-- 'New packets go to the end', where there is room
+pub waits-put : (w : WaitingList) (p : Packet) → held w < places w → waits (putLast w p) ≡ waits w ++ p ∷ []
+unfolding waits
+waits-put w p h =
+    ap waits (put-is w p h) ∙
+    waits-at w (set (w .packets) (held w) p) (held w + 1) (length-set (w .packets) (held w) p) (omega arith) ∙
+    rw add-one (take-suc-set (w .packets) (held w) p (omega (arith, places-in (length (w .packets)))))
 
 -- taking a packet out leaves the others, in their order
 pub waits-taken : (w : WaitingList) (at : ℕ) → at < held w → waits (takenOut w at) ≡ without (waits w) at
 unfolding waits
 waits-taken w at h =
-    ap waits (taken-is w at h) ∙ rw (waits-held w) (take-moves blank (w .packets) (held w) at h (held-within w))
+    ap waits (taken-is w at h) ∙
+    waits-at w (moves blank (w .packets) at (held w - 1 - at)) (held w - 1) (length-moves blank (w .packets) at (held w - 1 - at)) (omega (arith, held-places w)) ∙
+    take-moves blank (w .packets) (held w) at h (held-within w)
 
 -- how many wait afterwards
-pub held-none : held noneWait ≡ 0
-held-none = sym (length-waits noneWait) ∙ ap length waits-none
+pub held-none : (row : List Packet) → held (noneWait row) ≡ 0
+held-none row = sym (length-waits (noneWait row)) ∙ ap length (waits-none row)
 
-pub held-put : (w : WaitingList) (p : Packet) → held w < length (w .packets) → held (putLast w p) ≡ held w + 1
+pub held-put : (w : WaitingList) (p : Packet) → held w < places w → held (putLast w p) ≡ held w + 1
 held-put w p h = sym (length-waits (putLast w p)) ∙ ap length (waits-put w p h) ∙ simp (length-append, length-waits)
 
 pub held-taken : (w : WaitingList) (at : ℕ) → at < held w → held (takenOut w at) ≡ held w - 1
@@ -95,10 +106,9 @@ held-taken w at h =
 -- the row keeps its length
 places-put : (w : WaitingList) (p : Packet) → length (putLast w p .packets) ≡ length (w .packets)
 unfolding putLast
-places-put w p = go (ltb (held w) (length (w .packets)))
+places-put w p = go (ltb (held w) (places w))
   where
-    go : (t : Bool) →
-        length (cond t (record { packets = set (w .packets) (held w) p; count = held w + 1 }) w .packets) ≡ length (w .packets)
+    go : (t : Bool) → length (cond t (waitingList (set (w .packets) (held w) p) (held w + 1)) w .packets) ≡ length (w .packets)
     go true = length-set (w .packets) (held w) p
     go false = refl
 
@@ -107,8 +117,7 @@ unfolding takenOut
 places-taken w at = go (ltb at (held w))
   where
     go : (t : Bool) →
-        length (cond t (record { packets = moves blank (w .packets) at (held w - 1 - at); count = held w - 1 }) w .packets) ≡
-        length (w .packets)
+        length (cond t (waitingList (moves blank (w .packets) at (held w - 1 - at)) (held w - 1)) w .packets) ≡ length (w .packets)
     go true = length-moves blank (w .packets) at (held w - 1 - at)
     go false = refl
 
@@ -130,7 +139,7 @@ unfolding afterTaking
 takes w e t = rw t
 
 -- the packets that an edit adds come to the end, in their order
-waits-adding : (v : WaitingList) (e : Edit) → length (waits v ++ added e) ≤ length (v .packets) →
+waits-adding : (v : WaitingList) (e : Edit) → length (waits v ++ added e) ≤ places v →
     waits (adding v e) ≡ waits v ++ added e
 unfolding added adding
 waits-adding v e = go (leb 1 (e .add)) (leb 2 (e .add))
@@ -138,27 +147,27 @@ waits-adding v e = go (leb 1 (e .add)) (leb 2 (e .add))
     new : Bool → Bool → List Packet
     new s t = cond s (e .first ∷ cond t (e .second ∷ []) []) []
 
-    go : (s t : Bool) → length (waits v ++ new s t) ≤ length (v .packets) →
+    go : (s t : Bool) → length (waits v ++ new s t) ≤ places v →
         waits (cond s (cond t (putLast (putLast v (e .first)) (e .second)) (putLast v (e .first))) v) ≡ waits v ++ new s t
     go false t h = sym (append-nil (waits v))
     go true false h = waits-put v (e .first) (omega (arith, length-waits v, length-append (waits v) (e .first ∷ [])))
     go true true h =
-        let room : held v + 2 ≤ length (v .packets) = omega (arith, length-waits v, length-append (waits v) (e .first ∷ e .second ∷ [])) in
-        let one : held v < length (v .packets) = omega arith in
-        let two : held (putLast v (e .first)) < length (putLast v (e .first) .packets) =
-        omega (arith, held-put v (e .first) one, places-put v (e .first)) in
+        let room : held v + 2 ≤ places v = omega (arith, length-waits v, length-append (waits v) (e .first ∷ e .second ∷ [])) in
+        let one : held v < places v = omega arith in
+        let two : held (putLast v (e .first)) < places (putLast v (e .first)) =
+        omega (arith, held-put v (e .first) one, ap placesIn (places-put v (e .first))) in
         waits-put (putLast v (e .first)) (e .second) two ∙
         ap (λ (l : List Packet). l ++ e .second ∷ []) (waits-put v (e .first) one) ∙
         append-assoc (waits v) (e .first ∷ []) (e .second ∷ [])
 
 -- an edit that takes no packet out, where what waits afterwards has room
 pub waits-edited-keeping : (w : WaitingList) (e : Edit) → e .take ≡ false →
-    length (waits w ++ added e) ≤ length (w .packets) → waits (edited w e) ≡ waits w ++ added e
+    length (waits w ++ added e) ≤ places w → waits (edited w e) ≡ waits w ++ added e
 waits-edited-keeping w e t h = rw (edited-is w e, keeps w e t) (waits-adding w e h)
 
 -- an edit that takes one out, where what waits afterwards has room
 pub waits-edited-taking : (w : WaitingList) (e : Edit) → e .take ≡ true → e .at < held w →
-    length (without (waits w) (e .at) ++ added e) ≤ length (w .packets) →
+    length (without (waits w) (e .at) ++ added e) ≤ places w →
     waits (edited w e) ≡ without (waits w) (e .at) ++ added e
 waits-edited-taking w e t h k =
     let left : waits (takenOut w (e .at)) ≡ without (waits w) (e .at) = waits-taken w (e .at) h in
@@ -186,22 +195,63 @@ pub edited-none : (w : WaitingList) (e : Edit) → e .take ≡ false → e .add 
 unfolding adding
 edited-none w e t n = rw (edited-is w e, keeps w e t, n)
 
--- as many places as the code's type gives: a list of specs/ alone may have any number
-abbrev pub Sized : WaitingList → Type 0
-Sized w = length (w .packets) ≡ limits.waiting
+-- the count is how many wait: no larger than the places allow
+abbrev pub Exact : WaitingList → Type 0
+Exact w = w .count ≤ places w
 
-pub sized-none : Sized noneWait
+pub exact-held : (w : WaitingList) → Exact w → w .count ≡ held w
+exact-held w x = sym (held-is (length (w .packets)) (w .count) x)
+
+pub exact-none : (row : List Packet) → Exact (noneWait row)
 unfolding noneWait
-sized-none = length-replicate limits.waiting blank
+exact-none row = omega arith
+
+exact-put : (w : WaitingList) (p : Packet) → Exact w → Exact (putLast w p)
+unfolding putLast
+exact-put w p x = go (ltb (held w) (places w)) refl
+  where
+    go : (t : Bool) → ltb (held w) (places w) ≡ t → Exact (cond t (waitingList (set (w .packets) (held w) p) (held w + 1)) w)
+    go true e = rw (length-set (w .packets) (held w) p) (omega (arith, ltb-true (held w) (places w) e))
+    go false e = x
+
+exact-taken : (w : WaitingList) (at : ℕ) → Exact w → Exact (takenOut w at)
+unfolding takenOut
+exact-taken w at x = go (ltb at (held w))
+  where
+    go : (t : Bool) → Exact (cond t (waitingList (moves blank (w .packets) at (held w - 1 - at)) (held w - 1)) w)
+    go true = rw (length-moves blank (w .packets) at (held w - 1 - at)) (omega (arith, held-places w))
+    go false = x
+
+pub exact-edited : (w : WaitingList) (e : Edit) → Exact w → Exact (edited w e)
+unfolding edited afterTaking
+exact-edited w e x = go (leb 1 (e .add)) (leb 2 (e .add)) (afterTaking w e) (left (e .take))
+  where
+    left : (t : Bool) → Exact (cond t (takenOut w (e .at)) w)
+    left true = exact-taken w (e .at) x
+    left false = x
+
+    go : (s t : Bool) (v : WaitingList) → Exact v → Exact (cond s (cond t (putLast (putLast v (e .first)) (e .second)) (putLast v (e .first))) v)
+    go false t v y = y
+    go true false v y = exact-put v (e .first) y
+    go true true v y = exact-put (putLast v (e .first)) (e .second) (exact-put v (e .first) y)
+
+-- as many places as a run needs
+abbrev pub Sized : WaitingList → Type 0
+Sized w = limits.waiting ≤ length (w .packets)
+
+pub places-sized : (w : WaitingList) → Sized w → places w ≡ limits.waiting
+unfolding placesIn
+places-sized w s = omega arith
+
+pub sized-none : (row : List Packet) → limits.waiting ≤ length row → Sized (noneWait row)
+unfolding noneWait
+sized-none row s = s
 
 pub sized-put : (w : WaitingList) (p : Packet) → Sized w → Sized (putLast w p)
-sized-put w p s = places-put w p ∙ s
+sized-put w p s = omega (arith, places-put w p)
 
 pub sized-taken : (w : WaitingList) (at : ℕ) → Sized w → Sized (takenOut w at)
-sized-taken w at s = places-taken w at ∙ s
+sized-taken w at s = omega (arith, places-taken w at)
 
 pub sized-edited : (w : WaitingList) (e : Edit) → Sized w → Sized (edited w e)
-sized-edited w e s = places-edited w e ∙ s
-
-pub held-most : (w : WaitingList) → Sized w → held w ≤ limits.waiting
-held-most w s = omega (arith, held-within w)
+sized-edited w e s = omega (arith, places-edited w e)

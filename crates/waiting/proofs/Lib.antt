@@ -1,3 +1,6 @@
--- The laws of the waiting list, and what the functions' proofs share.
+-- The laws of the waiting list, and what walks over it share.
 pub mod Laws
-mod Places
+pub mod Plans
+pub mod Parts
+pub mod Again
+pub mod Lent

@@ -1,2 +1,3 @@
--- The waiting list.
+-- The waiting list. Plans is the code's way to an edit; nobody has to believe it.
 pub mod Waiting
+pub mod Plans

@@ -1,6 +1,11 @@
-// The waiting list: at most 64 packets, oldest first, with an edit that says what a step does to it. Nothing here decides a step.
+// The waiting list: packets, oldest first, in a slice that the caller lends, with a count; and an edit that says what a step does to it. Nothing here
+// decides a step.
 ghost use mathlib.Core.Path.{_≡_};
-ghost use Rattle.waiting.specs.Waiting.{blank, held, noneWait, lookAt, takenOut, putLast, afterTaking, edited};
+ghost use Prim.Native.Nat.{_-_, _≤_};
+ghost use lib.ListN.{length, set};
+ghost use Rattle.lists.specs.{moves};
+ghost use Rattle.waiting.specs.Waiting.{blank, waitingList, placesIn, heldIn, lookAt, edited};
+ghost use Rattle.waiting.specs.Plans.{placeOf, spanOf, spotOf, planOf};
 use limits::Number;
 use limits::Object;
 use limits::Operation;
@@ -10,6 +15,7 @@ use limits::Value;
 use limits::WAITING;
 
 // A packet of any kind: the machine above says which kinds there are and which fields each uses.
+#[repr(C)]
 pub struct Packet {
     pub kind: u8,
     pub replica: Replica,
@@ -20,11 +26,6 @@ pub struct Packet {
     pub stamp: Stamp,
 }
 
-pub struct WaitingList {
-    pub packets: [Packet; WAITING],
-    pub count: usize,
-}
-
 // What a step does to the list: the packet at `at` goes out if `take` says so, then none, the first or both of two packets come to the end.
 pub struct Edit {
     pub take: bool,
@@ -32,6 +33,30 @@ pub struct Edit {
     pub add: u8,
     pub first: Packet,
     pub second: Packet,
+}
+
+// The packets after place `from`, up to place `last`, move down one place; `left` is how many are left.
+struct Span {
+    from: usize,
+    last: usize,
+    left: usize,
+}
+
+// Where a packet goes that comes to the end, and the count then. A place past the end of the slice takes none.
+struct Spot {
+    place: usize,
+    count: usize,
+}
+
+// A whole edit: what moves, the first packet and its place, the second packet and the next place, and the count then.
+struct Plan {
+    from: usize,
+    last: usize,
+    place: usize,
+    first: Packet,
+    next: usize,
+    second: Packet,
+    count: usize,
 }
 
 impl Packet {
@@ -51,99 +76,142 @@ impl Packet {
     }
 }
 
-impl WaitingList {
-    pub fn new() -> WaitingList
-        ensures { λ r. ⌜ r ≡ noneWait ⌝ }
-    {
-        let packet = Packet::blank();
-        let packets = [packet; WAITING];
-        WaitingList {
-            packets: packets,
-            count: 0,
-        }
-    }
+// ---- places and counts
 
-    // How many packets wait; a count past the array's end stands for a full one.
-    pub fn held(self) -> usize
-        ensures { λ r. ⌜ r ≡ held self ⌝ }
-    {
-        let n = self.count;
-        if WAITING < n {
-            return WAITING;
-        }
-        n
+// How many of so many places are used: at most 64.
+fn places(length: usize) -> usize
+    ensures { λ r. ⌜ r ≡ placesIn length ⌝ }
+{
+    if WAITING < length {
+        return WAITING;
     }
+    length
+}
 
-    // The packet at a position, blank where none waits.
-    pub fn look(self, at: usize) -> Packet
-        ensures { λ r. ⌜ r ≡ lookAt self at ⌝ }
-    {
-        let n = self.held();
-        if n <= at {
-            return Packet::blank();
-        }
-        self.packets[at]
+// How many packets wait in a slice of so many places.
+pub fn held(length: usize, count: usize) -> usize
+    ensures { λ r. ⌜ r ≡ heldIn length count ⌝ }
+{
+    let most = places(length);
+    if most < count {
+        return most;
     }
+    count
+}
 
-    // Each later packet moves down one place; unchanged where none waits at the position.
-    pub fn take_out(self, at: usize) -> WaitingList
-        ensures { λ r. ⌜ r ≡ takenOut self at ⌝ }
-    {
-        let n = self.held();
-        if n <= at {
-            return self;
-        }
-        let last = n - 1;
-        let mut next = self;
-        let mut i = at;
-        while i < last {
-            let p = next.packets[i + 1];
-            next.packets[i] = p;
-            i += 1;
-        }
-        next.count = last;
-        next
+// The place of the packet at a position; where none waits, the slice's length.
+fn place_of(length: usize, count: usize, at: usize) -> usize
+    ensures { λ r. ⌜ r ≡ placeOf length count at ⌝ }
+{
+    let n = held(length, count);
+    if n <= at {
+        return length;
     }
+    at
+}
 
-    // The packet goes to the end; a full list is unchanged.
-    pub fn put(self, p: Packet) -> WaitingList
-        ensures { λ r. ⌜ r ≡ putLast self p ⌝ }
-    {
-        let n = self.held();
-        if WAITING <= n {
-            return self;
+// What moves where a packet is taken out.
+fn span_of(length: usize, count: usize, take: bool, at: usize) -> Span
+    ensures { λ r. ⌜ (r ≡ spanOf length count take at) × (r .from ≤ r .last) × (r .last ≤ length - 1) ⌝ }
+{
+    let n = held(length, count);
+    if take {
+        if at < n {
+            return Span {
+                from: at,
+                last: n - 1,
+                left: n - 1,
+            };
         }
-        let mut next = self;
-        next.packets[n] = p;
-        next.count = n + 1;
-        next
     }
+    Span {
+        from: 0,
+        last: 0,
+        left: count,
+    }
+}
 
-    // The first half of an edit: one packet goes out, or none.
-    fn after_taking(self, e: Edit) -> WaitingList
-        ensures { λ r. ⌜ r ≡ afterTaking self e ⌝ }
-    {
-        if e.take {
-            let at = e.at;
-            return self.take_out(at);
+// Where a packet goes that comes to the end, if one is wanted.
+fn spot_of(length: usize, count: usize, wanted: bool) -> Spot
+    ensures { λ r. ⌜ r ≡ spotOf length count wanted ⌝ }
+{
+    let n = held(length, count);
+    if wanted {
+        if n < places(length) {
+            return Spot {
+                place: n,
+                count: n + 1,
+            };
         }
-        self
     }
+    Spot {
+        place: length,
+        count,
+    }
+}
 
-    // A whole edit: new packets go to the end once the first half is done.
-    pub fn change(self, e: Edit) -> WaitingList
-        ensures { λ r. ⌜ r ≡ edited self e ⌝ }
-    {
-        let kept = self.after_taking(e);
-        if e.add < 1 {
-            return kept;
-        }
-        let first = e.first;
-        let one = kept.put(first);
-        if e.add < 2 {
-            return one;
-        }
-        let second = e.second;
-        one.put(second)
+// What an edit does.
+fn plan_of(length: usize, count: usize, e: Edit) -> Plan
+    ensures { λ r. ⌜ (r ≡ planOf length count e) × (r .from ≤ r .last) × (r .last ≤ length - 1) ⌝ }
+{
+    let span = span_of(length, count, e.take, e.at);
+    let one = spot_of(length, span.left, 1 <= e.add);
+    let two = spot_of(length, one.count, 2 <= e.add);
+    let first = e.first;
+    let second = e.second;
+    Plan {
+        from: span.from,
+        last: span.last,
+        place: one.place,
+        first,
+        next: two.place,
+        second,
+        count: two.count,
     }
+}
+
+// ---- the lent slice
+
+// The packet at a position, blank where none waits.
+pub fn look(packets: &mut [Packet], count: usize, at: usize) -> Packet
+    ensures { λ r. ⌜ (r ≡ lookAt (waitingList (now (packets .entry)) count) at) × (now (packets .exit) ≡ now (packets .entry)) ⌝ }
+{
+    let place = place_of(packets.len(), count, at);
+    if place < packets.len() {
+        return packets[place];
+    }
+    Packet::blank()
+}
+
+// A place takes a packet; past the end of the slice there is none.
+fn put(packets: &mut [Packet], place: usize, p: Packet)
+    ensures { λ _. ⌜ now (packets .exit) ≡ set (now (packets .entry)) place p ⌝ }
+{
+    if place < packets.len() {
+        packets[place] = p;
+    }
+}
+
+// The packets after place `from`, up to place `last`, each move down one place.
+fn close_up(packets: &mut [Packet], from: usize, last: usize)
+    requires { ⌜ (from ≤ last) × (last ≤ length (now packets) - 1) ⌝ }
+    ensures { λ _. ⌜ now (packets .exit) ≡ moves blank (now (packets .entry)) from (last - from) ⌝ }
+{
+    let mut i = from;
+    while i < last {
+        packets[i] = packets[i + 1];
+        i += 1;
+    }
+}
+
+// A whole edit; the count after it is handed back.
+pub fn change(packets: &mut [Packet], count: usize, e: Edit) -> usize
+    ensures { λ r. ⌜ (r ≡ edited (waitingList (now (packets .entry)) count) e .count)
+        × (now (packets .exit) ≡ edited (waitingList (now (packets .entry)) count) e .packets) ⌝ }
+{
+    let p = plan_of(packets.len(), count, e);
+    close_up(packets, p.from, p.last);
+    put(packets, p.place, p.first);
+    put(packets, p.next, p.second);
+    p.count
 }

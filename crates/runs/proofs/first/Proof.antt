@@ -6,19 +6,19 @@ use Rattle.runs.proofs.first.Tie as tie
 
 returns : tie.Need-returns
 unfolding firstPrinted
-returns c = rw (lt-ltb _ _ (c .before .before .before .before .before .if1 .taken), ← c .before .before .before .before .refusal-number .ensures, ← c .before .of-refusal .ensures) (c .stop .ensures)
+returns c = λ row. rw (lt-ltb _ _ (c .before .before .before .before .before .before .before .before .if1 .taken), ← c .before .before .before .before .before .before .before .refusal-number .ensures, ← c .before .before .before .before .before .before .of-refusal .ensures) (c .before .before .stop .ensures row _)
 
 returns-2 : tie.Need-returns-2
 unfolding firstPrinted
-returns-2 c = rw (le-ltb _ _ (c .before .before .before .before .before .before .before .before .if1 .left), ← c .before .before .before .before .before .before .before .next-at .ensures, c .before .before .before .before .before .x .given .1, ← c .before .before .before .replicas-of .ensures) (c .start-with .ensures)
+returns-2 c = λ row. rw (le-ltb _ _ (c .before .before .before .before .before .before .before .before .before .before .before .if1 .left), ← c .before .before .before .before .before .before .before .before .before .before .read-at .ensures, c .before .before .before .before .before .before .before .before .x .given .1, ← c .before .before .before .before .before .before .replicas-of .ensures) (c .before .before .start-with .ensures row)
 
 returns-3 : tie.Need-returns-3
 unfolding firstPrinted
-returns-3 c = rw (le-ltb _ _ (c .before .before .before .before .before .before .before .if1 .left), ← c .before .before .before .before .before .before .next-at .ensures, c .before .before .before .before .enum-told .given .1, ← c .before .malformed .ensures) (c .stop2 .ensures)
+returns-3 c = λ row. rw (le-ltb _ _ (c .before .before .before .before .before .before .before .before .before .before .if1 .left), ← c .before .before .before .before .before .before .before .before .before .read-at .ensures, c .before .before .before .before .before .before .before .enum-told .given .1, ← c .before .before .before .before .before .before .malformed .ensures) (c .before .before .stop2 .ensures row _)
 
 returns-4 : tie.Need-returns-4
 unfolding firstPrinted
-returns-4 c = rw (le-ltb _ _ (c .before .before .before .before .before .before .before .if1 .left), ← c .before .before .before .before .before .before .next-at .ensures, c .before .before .before .before .enum-told2 .given .1, ← c .before .malformed2 .ensures) (c .stop3 .ensures)
+returns-4 c = λ row. rw (le-ltb _ _ (c .before .before .before .before .before .before .before .before .before .before .if1 .left), ← c .before .before .before .before .before .before .before .before .before .read-at .ensures, c .before .before .before .before .before .before .before .enum-told2 .given .1, ← c .before .before .before .before .before .before .malformed2 .ensures) (c .before .before .stop3 .ensures row _)
 
 pub first-spec : {M : Type 1} → statement M
 first-spec =
@@ -27,6 +27,7 @@ first-spec =
     (λ c κs. search needs)
     (λ c κs. search needs)
     (λ c κs. search needs)
+    (λ c. search needs)
     returns
     (λ c κs. search needs)
     (λ c. search needs)
@@ -38,6 +39,9 @@ first-spec =
     (λ c. search needs)
     (λ c κs. search needs)
     (λ c κs. search needs)
+    (λ c. search needs)
     returns-2
+    (λ c. search needs)
     returns-3
+    (λ c. search needs)
     returns-4)

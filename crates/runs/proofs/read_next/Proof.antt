@@ -9,7 +9,7 @@ returns c = simp (c .if1 .taken)
 
 returns-2 : tie.Need-returns-2
 unfolding readNext
-returns-2 c = simp (c .before .if1 .left, c .next-at .ensures)
+returns-2 c = simp (c .before .if1 .left, c .read-at .ensures)
 
 pub read-next-spec : {M : Type 1} → statement M
 read-next-spec =

@@ -1,15 +1,18 @@
 use Rattle.protocol.specs.Steps.{startAnswer}
+use Rattle.waiting.specs.Waiting.{noneWait}
 use Rattle.runs.specs.Runs.{standsAs, startedWith}
 use borrow.Author.Needs.{needs}
 use Rattle.runs.proofs.start_with.Statement.{statement}
 use Rattle.runs.proofs.start_with.Tie as tie
 
 returns : tie.Need-returns
-unfolding standsAs startedWith startAnswer
-returns c = record {
-  stands = simp (c .before .before .before .before .start .ensures .0, c .before .before .before .before .start .ensures .1, c .before .before .before .before .start .ensures .2, c .before .before .before .start-refused .ensures);
-  reads = simp (c .before .before .of-answer .ensures, c .before .before .before .before .start .ensures .0);
-}
+unfolding standsAs startedWith startAnswer noneWait
+returns c = λ row. let text-is = simp (c .before .before .before .before .before .before .before .before .start .ensures .0) at (c .before .before .before .before .before .before .of-answer .ensures) in record {
+      stands = simp (c .before .before .before .before .before .before .before .before .start .ensures .0, c .before .before .before .before .before .before .before .before .start .ensures .1, c .before .before .before .before .before .before .before .before .start .ensures .2, c .before .before .before .before .before .before .before .start-refused .ensures);
+      left = simp (← c .before .before .before .before .before .before .before .start-refused .ensures) (c .before .turns-left .ensures);
+      place = rw (← text-is) (c .before .before .before .before .append .ensures .0);
+      there = rw (← text-is) (c .before .before .before .before .append .ensures .1);
+    }
 
 pub start-with-spec : {M : Type 1} → statement M
 start-with-spec =
@@ -18,4 +21,7 @@ start-with-spec =
     (λ c κs. search needs)
     (λ c κs. search needs)
     (λ c κs. search needs)
+    (λ c κs. search needs)
+    (λ c κs. search needs)
+    (λ c. search needs)
     returns)

@@ -1,0 +1,175 @@
+//! The library from outside: the same lines as the second model, refusals that
+//! change nothing, and what a file of records cannot reach.
+
+use second_model::generate::{generate, Random, KINDS};
+use second_model::{records, run::output};
+use woldladle::{
+    record_length, run, write_record, Answer, Model, LONGEST_LINE, LONGEST_RECORD, OUTPUT_ROOM,
+};
+
+/// The lines of a file, record by record through the library; a run that ends
+/// with 1, 2 or 14 is left to `run`.
+fn lines(file: &[u8]) -> Option<Vec<u8>> {
+    let pieces = records::pieces(file);
+    let (first, rest) = pieces.split_first()?;
+    let [32, 0, 1, n] = **first else { return None };
+    let mut model = Model::start(n).ok()?;
+    let mut out = b"1 ok 0 0 - -\n".to_vec();
+    let mut line = [0; LONGEST_LINE];
+    for (number, record) in (2..).zip(rest) {
+        if model.step(record) == Answer::Refused(1) {
+            return None;
+        }
+        let size = model.line(number, &mut line);
+        out.extend_from_slice(&line[..size]);
+    }
+    Some(out)
+}
+
+#[test]
+fn prints_what_the_second_model_prints() {
+    let mut out = vec![0; OUTPUT_ROOM];
+    let mut stepped = 0;
+    for (seed, (kind, _)) in (0..4).flat_map(|seed| KINDS.iter().map(move |k| (seed, k))) {
+        let file = generate(kind, seed, 65_536 >> (4 * seed % 9)).expect("a kind");
+        let expected = output(&file);
+        let size = run(&file, &mut out);
+        assert!(out[..size] == expected, "{kind} {seed}");
+        if let Some(lines) = lines(&file) {
+            assert!(lines == expected, "{kind} {seed}, by steps");
+            stepped += 1;
+        }
+    }
+    assert!(stepped > 20, "{stepped}");
+}
+
+/// Random bytes, random fields, or a step that may be accepted.
+fn random_record(random: &mut Random) -> Vec<u8> {
+    let mut record = vec![0; LONGEST_RECORD];
+    let tag = random.within(0, 11) as u8;
+    let (most, count) = if random.chance(500) {
+        (8, 3)
+    } else {
+        (2048, 300)
+    };
+    let numbers = (random.below(most) as u32, random.below(count) as u32);
+    match write_record(tag, numbers.0, numbers.1, &mut record) {
+        Ok(size) if random.chance(950) => record.truncate(size),
+        _ => {
+            record.truncate(random.below(LONGEST_RECORD + 1));
+            record.iter_mut().for_each(|b| *b = random.draw() as u8);
+        }
+    }
+    record
+}
+
+#[test]
+fn a_refusal_changes_no_byte() {
+    let mut random = Random::new(11);
+    let (mut refused, mut done) = (0, 0);
+    for n in 1..=8 {
+        let mut model = Model::start(n).expect("1 to 8");
+        for _ in 0..1500 {
+            let record = random_record(&mut random);
+            let before = model.bytes();
+            match model.step(&record) {
+                Answer::Refused(_) => {
+                    assert!(model.bytes() == before, "{record:?}");
+                    refused += 1;
+                }
+                _ => done += 1,
+            }
+        }
+    }
+    assert!(refused > 1000 && done > 1000, "{refused} {done}");
+}
+
+/// Steps with these numbers.
+fn step(model: &mut Model, tag: u8, first: u32, second: u32) -> Answer {
+    let mut record = [0; LONGEST_RECORD];
+    let size = write_record(tag, first, second, &mut record).expect("a record");
+    model.step(&record[..size])
+}
+
+#[test]
+fn operations_and_counters_are_used_up_together() {
+    let mut model = Model::start(1).expect("one");
+    for operation in 1..=65_535 {
+        assert_eq!(
+            step(&mut model, 2, operation % 1024, operation),
+            Answer::Done
+        );
+        assert_eq!(step(&mut model, 3, 0, 0), Answer::Done);
+        assert_eq!(step(&mut model, 3, 0, 0), Answer::Done);
+        let value = operation;
+        let finished = Answer::Finished { operation, value };
+        assert_eq!(step(&mut model, 3, 0, 0), finished);
+        assert_eq!(step(&mut model, 3, 0, 0), Answer::Done);
+    }
+    assert_eq!(model.stamp(1, 65_535 % 1024), 65_536 + 65_535);
+    assert_eq!(step(&mut model, 1, 5, 0), Answer::Refused(4));
+    assert_eq!(step(&mut model, 1, 1024, 0), Answer::Refused(3));
+}
+
+#[test]
+fn starts_of_1_to_8_stand() {
+    let refusals = (0..=255).map(|n| Model::start(n).err().unwrap_or(0));
+    let expected = (0..=255).map(|n| if (1..=8).contains(&n) { 0 } else { 2 });
+    assert!(refusals.eq(expected));
+}
+
+#[test]
+fn records_are_written_whole_or_not_at_all() {
+    let mut random = Random::new(5);
+    for _ in 0..20_000 {
+        let tag = random.one_of(&[32, 1, 2, 3, 4, 5, 6, 7, 8, 9, 10, 0, 11, 33, 255]);
+        let first = random.one_of(&[0, 1, 255, 256, 1023, 65_535, 65_536, u32::MAX]);
+        let second = random.one_of(&[0, 0, 1, 255, 256, u32::MAX]);
+        let mut out = vec![0xaa; random.below(12)];
+        let before = out.clone();
+        match write_record(tag, first, second, &mut out) {
+            Ok(size) => {
+                assert_eq!(size, record_length(tag));
+                assert!(out[size..] == before[size..]);
+                let (_, read) = records::read(&out).expect("a record");
+                assert_eq!(read, size);
+            }
+            Err(15) => assert!(out == before && out.len() < record_length(tag)),
+            Err(refusal) => assert!(refusal == 1 && out == before),
+        }
+    }
+}
+
+#[test]
+fn a_line_needs_its_room() {
+    let mut model = Model::start(2).expect("two");
+    assert_eq!(step(&mut model, 1, 5, 0), Answer::Done);
+    let mut line = [0xaa; 12];
+    assert_eq!(model.line(2, &mut line), 0);
+    assert_eq!(line, [0xaa; 12]);
+    let mut line = [0xaa; 14];
+    assert_eq!(model.line(2, &mut line), 13);
+    assert_eq!(&line, b"2 ok 1 0 - -\n\xaa");
+}
+
+#[test]
+fn what_is_not_there_is_0() {
+    let mut model = Model::start(1).expect("one");
+    for (tag, first, second) in [(2, 1023, 9), (3, 0, 0), (3, 0, 0)] {
+        assert_eq!(step(&mut model, tag, first, second), Answer::Done);
+    }
+    assert_eq!((model.value(1, 1023), model.stamp(1, 1023)), (9, 65_537));
+    for (replica, object) in [
+        (0, 1023),
+        (9, 1023),
+        (2, 1023),
+        (255, 1023),
+        (1, 1024),
+        (1, u32::MAX),
+    ] {
+        assert_eq!(
+            (model.value(replica, object), model.stamp(replica, object)),
+            (0, 0)
+        );
+    }
+}

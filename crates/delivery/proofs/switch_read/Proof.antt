@@ -1,0 +1,32 @@
+use Rattle.protocol.specs.Delivery.{switchRead}
+use borrow.Author.Tests.{eq-eqb, ne-eqb, not-false, not-true}
+use borrow.Author.Needs.{needs}
+use Rattle.delivery.proofs.switch_read.Statement.{statement}
+use Rattle.delivery.proofs.switch_read.Tie as tie
+
+returns : tie.Need-returns
+unfolding switchRead
+returns c = simp (not-true (c .before .before .before .before .before .before .args .s .switch .direct) (c .before .before .if1 .taken), c .pass-on .ensures, c .before .tail .ensures)
+
+returns-2 : tie.Need-returns-2
+unfolding switchRead
+returns-2 c = simp (not-false (c .before .before .before .before .before .before .before .before .args .s .switch .direct) (c .before .before .before .before .if1 .left), ← c .before .before .before .lookup .ensures, eq-eqb _ _ (c .before .before .if2 .taken), c .pass-on2 .ensures, c .before .choose .ensures)
+
+returns-3 : tie.Need-returns-3
+unfolding switchRead
+returns-3 c = simp (not-false (c .before .before .before .before .before .before .before .before .args .s .switch .direct) (c .before .before .before .before .if1 .left), ← c .before .before .before .lookup .ensures, ne-eqb _ _ (c .before .before .if2 .left), c .pass-on3 .ensures, c .before .tail2 .ensures)
+
+pub switch-read-spec : {M : Type 1} → statement M
+switch-read-spec =
+    tie.close
+    (tie.spec
+    (λ c κs. search needs)
+    (λ c κs. search needs)
+    returns
+    (λ c κs. search needs)
+    (λ c κs. search needs)
+    (λ c κs. search needs)
+    returns-2
+    (λ c κs. search needs)
+    (λ c κs. search needs)
+    returns-3)

@@ -1,0 +1,2 @@
+-- What walks over the machine share.
+pub mod Lent

@@ -1,0 +1,139 @@
+-- What the exported functions take and give, over the machine, the records and the lines.
+use mathlib.Core.Bool.{Bool, true, false, cond}
+use mathlib.Core.List.{List}
+use Prim.Native.Nat.{ℕ, _+_, _%_}
+use lib.Dec.{eqb, leb, ltb}
+use lib.ListN.{length}
+use Rattle.limits.specs as limits
+use Rattle.switch.specs.DirtySet.{countedMarks}
+use Rattle.replicas.specs.Store.{valueAt, stampAt}
+use Rattle.waiting.specs.Waiting.{heldIn}
+use Rattle.protocol.specs.declared.Answer.{Answer}
+use Rattle.protocol.specs.declared.Answer.the-variants.{Done, Finished, Refused}
+use Rattle.protocol.specs.declared.Refusal.the-variants.{Format, Replicas, BufferTooShort}
+use Rattle.protocol.specs.declared.Step.{Step}
+use Rattle.protocol.specs.declared.Step.the-variants.{Start, BeginRead, BeginWrite, Deliver, Lose, Repeat, Advance, Replace, Tell, Remove, GiveUp}
+use Rattle.protocol.specs.declared.Stepped.{Stepped}
+use Rattle.protocol.specs.Answers.{refusalNumber}
+use Rattle.protocol.specs.Steps.{startAnswer}
+use Rattle.records.specs.declared.Found.{Found}
+use Rattle.records.specs.declared.Written.{Written}
+use Rattle.records.specs.Records.{kindOfTag, noStep, contentLength, recordAt, writtenAt, bufferAfter}
+use Rattle.lines.specs.declared.Written.{Written as LineWritten}
+use Rattle.lines.specs.Lines.{lineOf, noLine}
+use Rattle.woldladle.specs.declared.Session.{Session}
+
+-- ---- a session
+
+-- an answer in numbers: the refusal, or 0; the operation just finished and its value, or 0
+abbrev pub refusalIn : Answer → ℕ
+refusalIn Done = 0
+refusalIn (Finished o v) = 0
+refusalIn (Refused r) = refusalNumber r
+
+abbrev pub operationIn : Answer → ℕ
+operationIn Done = 0
+operationIn (Finished o v) = o
+operationIn (Refused r) = 0
+
+abbrev pub valueIn : Answer → ℕ
+valueIn Done = 0
+valueIn (Finished o v) = v
+valueIn (Refused r) = 0
+
+-- a session after a start or a step, with so many places for packets
+unfoldable pub sessionOf : ℕ → ℕ → Stepped → Session
+sessionOf refusal places t = record {
+  refusal = refusal;
+  operation = operationIn (t .answer);
+  value = valueIn (t .answer);
+  waiting = heldIn places (t .count);
+  marks = countedMarks (t .state .switch);
+  count = t .count;
+  state = t .state;
+}
+
+abbrev pub sessionStarted : ℕ → Session
+sessionStarted n = sessionOf (refusalIn (startAnswer n .answer)) limits.waiting (startAnswer n)
+
+-- too few places are lent for the packets: refusal 15, and nothing is done
+unfoldable pub tooFew : ℕ → Bool
+tooFew places = ltb places limits.waiting
+
+-- the step of a record that fills the lent bytes; where there is none, a start, which the machine refuses by 1
+abbrev pub wholeStep : Found → ℕ → Step
+wholeStep (Found.Record x n) size = cond (eqb n size) x (Start 0)
+wholeStep Found.Malformed size = Start 0
+
+unfoldable pub askedBy : ℕ → List ℕ → Step
+askedBy places record = cond (tooFew places) (Start 0) (wholeStep (recordAt record 0) (length record))
+
+unfoldable pub sessionAfter : ℕ → Stepped → Session
+sessionAfter places t = sessionOf (cond (tooFew places) (refusalNumber BufferTooShort) (refusalIn (t .answer))) places t
+
+-- ---- lines
+
+-- the line of a session's last step, as record k
+unfoldable pub lineFor : ℕ → ℕ → ℕ → ℕ → ℕ → ℕ → List ℕ
+lineFor k refusal o v waiting marks =
+    cond (eqb refusal 0) (lineOf k (cond (eqb o 0) Done (Finished o v)) waiting marks) (noLine k refusal)
+
+-- how many bytes were written, 0 where the buffer is too short
+abbrev pub lineBytes : LineWritten → ℕ
+lineBytes (LineWritten.Bytes n) = n
+lineBytes LineWritten.TooShort = 0
+
+-- ---- records from numbers
+
+-- the largest first and second number of each kind of step: what its fields hold
+unfoldable pub largestFirst : ℕ → ℕ
+largestFirst k =
+    cond (eqb k 0) 255 (cond (eqb k 6) 255 (cond (eqb k 8) 255 (cond (eqb k 9) 255 65535)))
+
+unfoldable pub largestSecond : ℕ → ℕ
+largestSecond k = cond (eqb k 2) 4294967295 (cond (eqb k 3) 255 0)
+
+-- the tag is known and the numbers fit its fields
+unfoldable pub isRecord : ℕ → ℕ → ℕ → Bool
+isRecord tag a b =
+    cond (eqb (kindOfTag tag) noStep) false (cond (leb a (largestFirst (kindOfTag tag))) (leb b (largestSecond (kindOfTag tag))) false)
+
+-- the step of a kind with these numbers
+unfoldable pub stepFrom : ℕ → ℕ → ℕ → Step
+stepFrom k a b =
+    cond (eqb k 0) (Start (a % 256))
+    (cond (eqb k 1) (BeginRead (a % 65536))
+    (cond (eqb k 2) (BeginWrite (a % 65536) b)
+    (cond (eqb k 3) (Deliver (a % 65536) (b % 256))
+    (cond (eqb k 4) (Lose (a % 65536))
+    (cond (eqb k 5) (Repeat (a % 65536))
+    (cond (eqb k 6) (Advance (a % 256))
+    (cond (eqb k 7) (Replace (a % 65536))
+    (cond (eqb k 8) (Tell (a % 256)) (cond (eqb k 9) (Remove (a % 256)) (GiveUp (a % 65536)))))))))))
+
+abbrev pub writtenNumber : Written → ℕ
+writtenNumber (Written.Bytes n) = 0
+writtenNumber Written.TooShort = refusalNumber BufferTooShort
+
+-- refusal 1 where there is no such record, 15 where the buffer is too short, 0 where it is written
+unfoldable pub recordRefusal : List ℕ → ℕ → ℕ → ℕ → ℕ
+recordRefusal buf tag a b = cond (isRecord tag a b) (writtenNumber (writtenAt buf 0 (stepFrom (kindOfTag tag) a b))) (refusalNumber Format)
+
+unfoldable pub recordBuffer : List ℕ → ℕ → ℕ → ℕ → List ℕ
+recordBuffer buf tag a b = cond (isRecord tag a b) (bufferAfter buf 0 (stepFrom (kindOfTag tag) a b)) buf
+
+-- how long the record of a tag is, 0 for an unknown one
+unfoldable pub recordSize : ℕ → ℕ
+recordSize tag = cond (eqb (kindOfTag tag) noStep) 0 (3 + contentLength (kindOfTag tag))
+
+-- ---- what a replica holds
+
+-- the replica and the object are there
+unfoldable pub isCell : ℕ → ℕ → Bool
+isCell r o = cond (leb 1 r) (cond (leb r limits.replicas) (ltb o limits.objects) false) false
+
+unfoldable pub valueOf : List ℕ → ℕ → ℕ → ℕ
+valueOf store r o = cond (isCell r o) (valueAt store r o) 0
+
+unfoldable pub stampIn : List ℕ → ℕ → ℕ → ℕ
+stampIn store r o = cond (isCell r o) (stampAt store r o) 0

@@ -1,0 +1,2 @@
+-- The model for callers in C and Rust.
+pub mod Calls

@@ -1,0 +1,88 @@
+// Records from numbers.
+ghost use mathlib.Core.Path.{_≡_};
+ghost use Rattle.woldladle.specs.Calls.{largestFirst, largestSecond, isRecord, stepFrom, recordRefusal, recordBuffer, recordSize};
+use protocol::Refusal;
+use protocol::Step;
+use records::NO_STEP;
+use records::Written;
+
+fn largest_first(kind: usize) -> u32
+    ensures { λ r. ⌜ r ≡ largestFirst kind ⌝ }
+{
+    match kind {
+        0 => 255,
+        6 => 255,
+        8 => 255,
+        9 => 255,
+        _ => 65535,
+    }
+}
+
+fn largest_second(kind: usize) -> u32
+    ensures { λ r. ⌜ r ≡ largestSecond kind ⌝ }
+{
+    match kind {
+        2 => 4294967295,
+        3 => 255,
+        _ => 0,
+    }
+}
+
+fn is_record(tag: u8, first: u32, second: u32) -> bool
+    ensures { λ r. ⌜ r ≡ isRecord tag first second ⌝ }
+{
+    let kind = records::kind_of_tag(tag);
+    if kind == NO_STEP {
+        return false;
+    }
+    if first <= largest_first(kind) {
+        return second <= largest_second(kind);
+    }
+    false
+}
+
+fn step_from(kind: usize, first: u32, second: u32) -> Step
+    ensures { λ r. ⌜ r ≡ stepFrom kind first second ⌝ }
+{
+    match kind {
+        0 => Step::Start((first % 256) as u8),
+        1 => Step::BeginRead((first % 65536) as u16),
+        2 => Step::BeginWrite((first % 65536) as u16, second),
+        3 => Step::Deliver((first % 65536) as u16, (second % 256) as u8),
+        4 => Step::Lose((first % 65536) as u16),
+        5 => Step::Repeat((first % 65536) as u16),
+        6 => Step::Advance((first % 256) as u8),
+        7 => Step::Replace((first % 65536) as u16),
+        8 => Step::Tell((first % 256) as u8),
+        9 => Step::Remove((first % 256) as u8),
+        _ => Step::GiveUp((first % 65536) as u16),
+    }
+}
+
+// Writes a record at the start of the buffer: its tag, and its numbers in the order of the record, 0 for one that it does not have. 0, or refusal 1 where there is
+// no such record, or 15 where the buffer is too short; a refusal leaves the buffer as it was.
+#[no_mangle]
+pub extern "C" fn woldladle_write_record(tag: u8, first: u32, second: u32, out: &mut [u8]) -> u8
+    ensures { λ r. ⌜ (r ≡ recordRefusal (now (out .entry)) tag first second) × (now (out .exit) ≡ recordBuffer (now (out .entry)) tag first second) ⌝ }
+{
+    if !is_record(tag, first, second) {
+        return lines::refusal_number(Refusal::Format);
+    }
+    let step = step_from(records::kind_of_tag(tag), first, second);
+    match records::write_at(&mut *out, 0, step) {
+        Written::Bytes(n) => 0,
+        Written::TooShort => lines::refusal_number(Refusal::BufferTooShort),
+    }
+}
+
+// How many bytes the record of a tag has, 0 for an unknown tag.
+#[no_mangle]
+pub extern "C" fn woldladle_record_length(tag: u8) -> u16
+    ensures { λ r. ⌜ r ≡ recordSize tag ⌝ }
+{
+    let kind = records::kind_of_tag(tag);
+    if kind == NO_STEP {
+        return 0;
+    }
+    3 + records::content_length(kind)
+}
