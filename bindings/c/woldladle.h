@@ -7,7 +7,7 @@
  *   uint32_t opens[64]         256 bytes: the open operations
  *   packets[64]                1,280 bytes: the waiting packets, oldest first; a longer array is taken too, and its first 64 places are used
  *
- * None of it has to be set before woldladle_start. From then on nobody but the library writes in it, until the next start.
+ * The session is set to zeros before its first start; the rest may hold anything. From the start on nobody but the library writes in it, until the next start.
  * No pointer is kept. Lengths are in bytes, of `packets` in places. Every value of every argument is taken: what is not allowed is refused by document 01's number.
  */
 #ifndef WOLDLADLE_H

@@ -8,12 +8,12 @@ mod kinds;
 mod reader;
 mod writer;
 
-use protocol::Step;
 pub use cursor::Reader;
 pub use cursor::read_at;
 pub use kinds::NO_STEP;
 pub use kinds::content_length;
 pub use kinds::kind_of_tag;
+use protocol::Step;
 pub use reader::record_at;
 pub use writer::record_length;
 pub use writer::write_at;

@@ -331,10 +331,10 @@ module _ (c : Chain) (q r : ℕ) (g : Descending c) (f : isLive c q ≡ true) (e
   removed-pending d n =
       elim (decLt (placeOf c q) (placeOf c r)) [
         | yes b ↦ elim (ℕ-discrete (placeOf c q) 0) [
-            | yes z ↦ pending-head (removed c r) q (left-before b ∙ z) ∙ sym (pending-head c q z)
-            | no z ↦ left-pending (placeOf c q) (left-before b) (omega arith) (omega (arith, place-below c r e)) (omega arith)
-                (member-removed-before c r (placeOf c q - 1) e (omega arith))
-          ]
+          | yes z ↦ pending-head (removed c r) q (left-before b ∙ z) ∙ sym (pending-head c q z)
+          | no z ↦ left-pending (placeOf c q) (left-before b) (omega arith) (omega (arith, place-below c r e)) (omega arith)
+              (member-removed-before c r (placeOf c q - 1) e (omega arith))
+        ]
         | no b ↦ behind (differ d n b)
       ]
     where

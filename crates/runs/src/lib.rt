@@ -108,21 +108,19 @@ fn look(input: &[u8], over: bool, at: usize) -> Turn
 }
 
 // The run after a step, with its line in the buffer; the next record is at `at`.
-fn go_on(
-    run: Run,
-    at: usize,
-    places: usize,
-    done: Stepped,
-    out: &mut [u8],
-    used: usize,
-) -> Ran
+fn go_on(run: Run, at: usize, places: usize, done: Stepped, out: &mut [u8], used: usize) -> Ran
     ensures { λ r. ⌜ Concludes r (now (out .exit)) (now (out .entry)) used (goingOn run at places done) ⌝ }
 {
     let state = done.state;
     let count = done.count;
     let switch = state.switch;
     let answer = done.answer;
-    let line = lines::of_answer(run.number, answer, waiting::held(places, count), switch.count());
+    let line = lines::of_answer(
+        run.number,
+        answer,
+        waiting::held(places, count),
+        switch.count(),
+    );
     let number = next_number(run.number);
     let left = one_fewer(run.left);
     let used = lines::append(line, out, used);
@@ -163,14 +161,7 @@ fn malformed(number: u32) -> Line
 }
 
 // The run after what was read, whose step gave `done`. There are so many places for packets.
-fn conclude(
-    run: Run,
-    found: Next,
-    places: usize,
-    done: Stepped,
-    out: &mut [u8],
-    used: usize,
-) -> Ran
+fn conclude(run: Run, found: Next, places: usize, done: Stepped, out: &mut [u8], used: usize) -> Ran
     ensures { λ r. ⌜ Concludes r (now (out .exit)) (now (out .entry)) used (concluded run found places done) ⌝ }
 {
     match found {
@@ -218,12 +209,7 @@ fn replicas_of(x: Step) -> u8
 }
 
 // Nothing is run: a start of no replicas is refused, and leaves what is lent as it was.
-fn stop(
-    line: Line,
-    cells: &mut [u32; CELLS],
-    opens: &mut [Operation; OPEN],
-    out: &mut [u8],
-) -> Ran
+fn stop(line: Line, cells: &mut [u32; CELLS], opens: &mut [Operation; OPEN], out: &mut [u8]) -> Ran
     ensures { λ r. ⌜ ((row : List Packet) (k : ℕ) → Gives r (now (cells .exit)) (now (opens .exit)) row (now (out .exit)) k (now (out .entry)) 0
         (stopped (now (cells .entry)) (now (opens .entry)) row (text line))) ⌝ }
 {
@@ -323,6 +309,13 @@ fn print_rest(
     used
 }
 
+// Places for the packets, all blank.
+fn blank_places() -> [Packet; WAITING]
+    ensures { λ r. ⌜ r ≡ replicate limits.waiting blank ⌝ }
+{
+    [Packet::blank(); WAITING]
+}
+
 // The same, with places for the packets made here.
 fn print_from(
     input: &[u8],
@@ -335,7 +328,7 @@ fn print_from(
     ensures { λ r. ⌜ (r ≡ filled (run .left) (now (input .entry)) (standsAs run (now (cells .entry)) (now (opens .entry)) (replicate limits.waiting blank)) (now (out .entry)) used .used)
         × (now (out .exit) ≡ filled (run .left) (now (input .entry)) (standsAs run (now (cells .entry)) (now (opens .entry)) (replicate limits.waiting blank)) (now (out .entry)) used .out) ⌝ }
 {
-    let mut packets = [Packet::blank(); WAITING];
+    let mut packets = blank_places();
     print_rest(input, run, cells, opens, &mut packets, out, used)
 }
 

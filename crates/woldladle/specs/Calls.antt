@@ -1,5 +1,5 @@
 -- What the exported functions take and give, over the machine, the records and the lines.
-use mathlib.Core.Bool.{Bool, true, false, cond}
+use mathlib.Core.Bool.{Bool, false, cond}
 use mathlib.Core.List.{List}
 use Prim.Native.Nat.{ℕ, _+_, _%_}
 use lib.Dec.{eqb, leb, ltb}
@@ -10,15 +10,14 @@ use Rattle.replicas.specs.Store.{valueAt, stampAt}
 use Rattle.waiting.specs.Waiting.{heldIn}
 use Rattle.protocol.specs.declared.Answer.{Answer}
 use Rattle.protocol.specs.declared.Answer.the-variants.{Done, Finished, Refused}
-use Rattle.protocol.specs.declared.Refusal.the-variants.{Format, Replicas, BufferTooShort}
+use Rattle.protocol.specs.declared.Refusal.the-variants.{Format, BufferTooShort}
 use Rattle.protocol.specs.declared.Step.{Step}
 use Rattle.protocol.specs.declared.Step.the-variants.{Start, BeginRead, BeginWrite, Deliver, Lose, Repeat, Advance, Replace, Tell, Remove, GiveUp}
 use Rattle.protocol.specs.declared.Stepped.{Stepped}
 use Rattle.protocol.specs.Answers.{refusalNumber}
 use Rattle.protocol.specs.Steps.{startAnswer}
 use Rattle.records.specs.declared.Found.{Found}
-use Rattle.records.specs.declared.Written.{Written}
-use Rattle.records.specs.Records.{kindOfTag, noStep, contentLength, recordAt, writtenAt, bufferAfter}
+use Rattle.records.specs.Records.{kindOfTag, noStep, contentLength, recordAt, writtenAt, bufferAfter, writtenRefusal}
 use Rattle.lines.specs.declared.Written.{Written as LineWritten}
 use Rattle.lines.specs.Lines.{lineOf, noLine}
 use Rattle.woldladle.specs.declared.Session.{Session}
@@ -66,7 +65,7 @@ wholeStep (Found.Record x n) size = cond (eqb n size) x (Start 0)
 wholeStep Found.Malformed size = Start 0
 
 unfoldable pub askedBy : ℕ → List ℕ → Step
-askedBy places record = cond (tooFew places) (Start 0) (wholeStep (recordAt record 0) (length record))
+askedBy places bytes = cond (tooFew places) (Start 0) (wholeStep (recordAt bytes 0) (length bytes))
 
 unfoldable pub sessionAfter : ℕ → Stepped → Session
 sessionAfter places t = sessionOf (cond (tooFew places) (refusalNumber BufferTooShort) (refusalIn (t .answer))) places t
@@ -111,13 +110,9 @@ stepFrom k a b =
     (cond (eqb k 7) (Replace (a % 65536))
     (cond (eqb k 8) (Tell (a % 256)) (cond (eqb k 9) (Remove (a % 256)) (GiveUp (a % 65536)))))))))))
 
-abbrev pub writtenNumber : Written → ℕ
-writtenNumber (Written.Bytes n) = 0
-writtenNumber Written.TooShort = refusalNumber BufferTooShort
-
 -- refusal 1 where there is no such record, 15 where the buffer is too short, 0 where it is written
 unfoldable pub recordRefusal : List ℕ → ℕ → ℕ → ℕ → ℕ
-recordRefusal buf tag a b = cond (isRecord tag a b) (writtenNumber (writtenAt buf 0 (stepFrom (kindOfTag tag) a b))) (refusalNumber Format)
+recordRefusal buf tag a b = cond (isRecord tag a b) (writtenRefusal (writtenAt buf 0 (stepFrom (kindOfTag tag) a b))) (refusalNumber Format)
 
 unfoldable pub recordBuffer : List ℕ → ℕ → ℕ → ℕ → List ℕ
 recordBuffer buf tag a b = cond (isRecord tag a b) (bufferAfter buf 0 (stepFrom (kindOfTag tag) a b)) buf

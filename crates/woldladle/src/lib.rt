@@ -1,4 +1,4 @@
-// The model for callers in C and Rust: a session and lent memory, records, lines, and whole runs. c/woldladle.h says where each thing lies.
+// The model for callers in C and Rust: a session and lent memory, records, lines, and whole runs. bindings/c/woldladle.h says where each thing lies.
 ghost use mathlib.Core.Path.{_≡_};
 ghost use Rattle.waiting.specs.Waiting.{waitingList};
 ghost use Rattle.protocol.specs.Steps.{machine, after, steppedBy, startStore, startOpens};
@@ -8,6 +8,7 @@ ghost use Rattle.woldladle.specs.Calls.{sessionStarted, askedBy, session
 pub mod cells;
 pub mod lines_out;
 pub mod records_out;
+pub mod runs_out;
 pub mod sessions;
 
 use limits::OPEN;
@@ -44,28 +45,28 @@ pub extern "C" fn woldladle_start(
     *session = sessions::begin(cells, opens, n);
 }
 
-// The step of one record.
+// The step of one record, which is all of the lent bytes.
 #[no_mangle]
 pub extern "C" fn woldladle_step(
     session: &mut Session,
     cells: &mut [u32; CELLS],
     opens: &mut [Operation; OPEN],
     packets: &mut [Packet],
-    record: &[u8],
+    bytes: &[u8],
 )
     ensures { λ _. ⌜ (now (session .exit) ≡ sessionAfter (length (now (packets .entry)))
-            (steppedBy (machine (now (session .entry) .state) (now (cells .entry)) (now (opens .entry)) (waitingList (now (packets .entry)) (now (session .entry) .count)))
-            (askedBy (length (now (packets .entry))) (now (record .entry)))))
+        (steppedBy (machine (now (session .entry) .state) (now (cells .entry)) (now (opens .entry)) (waitingList (now (packets .entry)) (now (session .entry) .count)))
+        (askedBy (length (now (packets .entry))) (now (bytes .entry)))))
         × (now (cells .exit) ≡ after (machine (now (session .entry) .state) (now (cells .entry)) (now (opens .entry)) (waitingList (now (packets .entry)) (now (session .entry) .count)))
-            (askedBy (length (now (packets .entry))) (now (record .entry))) .store)
+        (askedBy (length (now (packets .entry))) (now (bytes .entry))) .store)
         × (now (opens .exit) ≡ after (machine (now (session .entry) .state) (now (cells .entry)) (now (opens .entry)) (waitingList (now (packets .entry)) (now (session .entry) .count)))
-            (askedBy (length (now (packets .entry))) (now (record .entry))) .opens)
+        (askedBy (length (now (packets .entry))) (now (bytes .entry))) .opens)
         × (now (packets .exit) ≡ after (machine (now (session .entry) .state) (now (cells .entry)) (now (opens .entry)) (waitingList (now (packets .entry)) (now (session .entry) .count)))
-            (askedBy (length (now (packets .entry))) (now (record .entry))) .waiting .packets) ⌝ }
+        (askedBy (length (now (packets .entry))) (now (bytes .entry))) .waiting .packets) ⌝ }
 {
     let before = *session;
     let places = packets.len();
-    let x = sessions::asked(places, record);
+    let x = sessions::asked(places, bytes);
     let done = machine::step(before.state, cells, opens, packets, before.count, x);
     *session = sessions::noted(places, done);
 }

@@ -84,25 +84,19 @@ fn whole_step(found: Found, size: usize) -> Step
     ensures { λ r. ⌜ r ≡ wholeStep found size ⌝ }
 {
     match found {
-        Found::Record(x, n) => {
-            if n == size {
-                x
-            } else {
-                Step::Start(0)
-            }
-        }
+        Found::Record(x, n) => { if n == size { x } else { Step::Start(0) } }
         Found::Malformed => Step::Start(0),
     }
 }
 
 // The step that the machine is handed for a record: a start, which it refuses, where there is none.
-pub fn asked(places: usize, record: &[u8]) -> Step
-    ensures { λ r. ⌜ r ≡ askedBy places (now (record .entry)) ⌝ }
+pub fn asked(places: usize, bytes: &[u8]) -> Step
+    ensures { λ r. ⌜ r ≡ askedBy places (now (bytes .entry)) ⌝ }
 {
     if too_few(places) {
         return Step::Start(0);
     }
-    whole_step(records::record_at(record, 0), record.len())
+    whole_step(records::record_at(bytes, 0), bytes.len())
 }
 
 // The session after a step.
@@ -114,5 +108,6 @@ pub fn noted(places: usize, done: Stepped) -> Session
         return session_of(refusal, places, done);
     }
     let answer = done.answer;
-    session_of(refusal_in(answer), places, done)
+    let refusal = refusal_in(answer);
+    session_of(refusal, places, done)
 }

@@ -9,11 +9,11 @@ use Rattle.runs.proofs.stop.Tie as tie
 returns : tie.Need-returns
 unfolding standsAs stopped turnsLeft startAnswer startStore startOpens startRefused noneWait
 returns c = λ row k. record {
-      stands = simp (c .before .before .before .before .before .start .ensures .0, c .before .before .before .before .before .start .ensures .1, c .before .before .before .before .before .start .ensures .2);
-      left = refl;
-      place = c .before .before .before .append .ensures .0;
-      there = c .before .before .before .append .ensures .1;
-    }
+  stands = simp (c .before .before .before .before .before .start .ensures .0, c .before .before .before .before .before .start .ensures .1, c .before .before .before .before .before .start .ensures .2);
+  left = refl;
+  place = c .before .before .before .append .ensures .0;
+  there = c .before .before .before .append .ensures .1;
+}
 
 pub stop-spec : {M : Type 1} → statement M
 stop-spec =
