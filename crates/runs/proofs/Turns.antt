@@ -8,9 +8,8 @@ use Rattle.waiting.specs.Waiting.{waitingList, heldIn}
 use Rattle.protocol.specs.declared.Refusal.the-variants.{Format}
 use Rattle.protocol.specs.declared.Step.{Step}
 use Rattle.protocol.specs.declared.Step.the-variants.{Start}
-use Rattle.protocol.specs.declared.Stepped.{Stepped}
 use Rattle.protocol.specs.Decisions.{refusing}
-use Rattle.protocol.specs.Steps.{Machine, machine, decided, answerTo, after}
+use Rattle.protocol.specs.Steps.{Machine, machine, decided, answerTo, after, steppedBy}
 use Rattle.protocol.proofs.Refusals.{refused-unchanged}
 use Rattle.records.specs.declared.Next.{Next}
 use Rattle.runs.specs.declared.Run.{Run}
@@ -22,12 +21,9 @@ start-keeps : (m : Machine) → after m (Start 0) ≡ m
 unfolding answerTo decided refusing
 start-keeps m = refused-unchanged m (Start 0) Format refl
 
--- the machine as a run is lent it, and what its step gives
+-- the machine as a run is lent it
 abbrev pub modelOf : Run → List ℕ → List ℕ → List Packet → Machine
 modelOf r store opens row = machine (r .state) store opens (waitingList row (r .count))
-
-abbrev pub steppedBy : Machine → Step → Stepped
-steppedBy m x = record { answer = answerTo m x; state = after m x .state; count = after m x .waiting .count }
 
 -- the turn, for each thing that may have been read
 module _ (r : Run) (store opens : List ℕ) (row : List Packet) where

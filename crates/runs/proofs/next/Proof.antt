@@ -43,7 +43,7 @@ use Rattle.waiting.specs.declared.Packet.{Packet}
 use Rattle.waiting.proofs.Packet as T
 use Rattle.protocol.proofs.Step.Laws as TY′
 use Rattle.protocol.specs.declared.Stepped.{Stepped}
-use Rattle.protocol.specs.Steps.{Machine, after}
+use Rattle.protocol.specs.Steps.{Machine, after, steppedBy}
 use Rattle.protocol.proofs.Stepped as TS
 use Rattle.protocol.proofs.Stepped.Laws as TS′
 use Rattle.records.specs.declared.Next.{Next}
@@ -57,7 +57,7 @@ use Rattle.runs.specs.declared.Run.{Run}
 use Rattle.runs.specs.declared.Ran.{Ran}
 use Rattle.runs.specs.declared.Turn.{Turn}
 use Rattle.runs.specs.Runs.{Concluded, Concludes, readNext, turnOf, concluded}
-use Rattle.runs.proofs.Turns.{modelOf, steppedBy, next-gives}
+use Rattle.runs.proofs.Turns.{modelOf, next-gives}
 use Rattle.runs.proofs.Run as TR
 use Rattle.runs.proofs.Run.Laws as TR′
 use Rattle.runs.proofs.Ran as TN
