@@ -109,17 +109,24 @@ fn programs(ours: &str, theirs: &str) {
     sizes.print();
 }
 
+/// A file of many short records: reads that are begun, lost and given up.
+fn short_records(count: usize) -> Vec<u8> {
+    let mut file = vec![32, 0, 1, 3];
+    for operation in 1..=count / 3 {
+        let [_, _, high, low] = (operation as u32).to_be_bytes();
+        file.extend([1, 0, 2, high % 4, low]);
+        file.extend([4, 0, 2, 0, 0]);
+        file.extend([10, 0, 2, high, low]);
+    }
+    file
+}
+
 /// (d) How the time of a whole run grows with its records.
 fn growth() {
     let mut table = Table::new(["(d) records", "ours, ns each", "second, ns each", "ratio"]);
     let mut out = vec![0; OUTPUT_ROOM];
-    let file = generate("dense", SEED, LONGEST).expect("a kind");
-    let pieces = records::pieces(&file);
-    for count in (1_000..=13_000)
-        .step_by(2_000)
-        .map(|n: usize| n.min(pieces.len()))
-    {
-        let input: Vec<u8> = pieces[..count].concat();
+    for count in (1_000..=13_000).step_by(2_000) {
+        let input = short_records(count);
         let ours = fastest(15, || {
             black_box(run(&input, &mut out));
         });

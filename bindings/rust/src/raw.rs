@@ -33,7 +33,7 @@ impl Session {
     /// The bytes of the machine's own part, without the padding between its
     /// fields, which holds nothing.
     pub fn machine_bytes(&self) -> Vec<u8> {
-        const PADDING: [std::ops::Range<usize>; 3] = [17..20, 404..408, 508..512];
+        const PADDING: [std::ops::Range<usize>; 2] = [401..408, 508..512];
         let bytes = self.own.iter().flat_map(|n| n.to_le_bytes());
         bytes
             .enumerate()

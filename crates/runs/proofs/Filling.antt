@@ -13,7 +13,8 @@ use Rattle.waiting.specs.declared.Packet.{Packet}
 use Rattle.waiting.specs.Waiting.{blank}
 use Rattle.runs.specs.declared.Run.{Run}
 use Rattle.runs.specs.declared.Ran.{Ran}
-use Rattle.runs.specs.Runs.{Standing, Printed, Gives, standsAs, continued, nextPrinted, Filled, filled, begins, filledWith, InUse, turnsLeft}
+use Rattle.runs.specs.Runs.{Standing, Printed, continued, nextPrinted, begins}
+use Rattle.runs.specs.Contracts.{Gives, standsAs, Filled, filled, filledWith, InUse, turnsLeft}
 use Rattle.records.specs.declared.Next.{Next}
 use Rattle.runs.proofs.Ends.{over-next}
 

@@ -45,7 +45,8 @@ use Rattle.protocol.proofs.State.Laws as TM′
 use Rattle.machine.proofs.Lent.{Store, Opens}
 use Rattle.runs.specs.declared.Run.{Run}
 use Rattle.runs.specs.declared.Ran.{Ran}
-use Rattle.runs.specs.Runs.{Standing, Filled, Gives, standsAs, nextPrinted, filled}
+use Rattle.runs.specs.Runs.{Standing, nextPrinted}
+use Rattle.runs.specs.Contracts.{Filled, Gives, standsAs, filled}
 use Rattle.runs.proofs.Run as TR
 use Rattle.runs.proofs.Run.Laws as TR′
 use Rattle.runs.proofs.Ran as TN

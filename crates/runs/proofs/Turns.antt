@@ -14,7 +14,8 @@ use Rattle.protocol.proofs.Refusals.{refused-unchanged}
 use Rattle.records.specs.declared.Next.{Next}
 use Rattle.runs.specs.declared.Run.{Run}
 use Rattle.runs.specs.declared.Ran.{Ran}
-use Rattle.runs.specs.Runs.{Gives, Concludes, concluded, continued, readNext, nextPrinted, stepIn, standsAs, turnsLeft}
+use Rattle.runs.specs.Runs.{continued, readNext, nextPrinted}
+use Rattle.runs.specs.Contracts.{Gives, Concludes, concluded, stepIn, standsAs, turnsLeft}
 
 -- a start that comes as a step changes nothing
 start-keeps : (m : Machine) → after m (Start 0) ≡ m

@@ -24,7 +24,8 @@ use Rattle.lines.specs.Lines.{noLine}
 use Rattle.lines.specs.Text.{putIn, placeAfter}
 use Rattle.lines.proofs.Laws.{refusal-length, answer-length}
 use Rattle.lines.proofs.Text.{put-length, put-there, place-there}
-use Rattle.runs.specs.Runs.{Standing, Printed, continued, readNext, nextPrinted, turns, stopped, startedWith, opened, firstPrinted, begins, printed, Filled, filled, filledWith}
+use Rattle.runs.specs.Runs.{Standing, Printed, continued, readNext, nextPrinted, turns, stopped, startedWith, opened, firstPrinted, begins, printed}
+use Rattle.runs.specs.Contracts.{Filled, filled, filledWith}
 use Rattle.runs.proofs.Ends.{over-prints, read-ahead, opened-ahead}
 
 -- ---- with room, every line is there

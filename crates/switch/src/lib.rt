@@ -10,15 +10,15 @@ use limits::Stamp;
 
 pub const SLOTS: usize = 48;
 
-// A slot whose stamp is (0,0) holds nothing.
+// A slot whose stamp is (0,0) holds nothing. The slots lie before the sign, so that a copy of them is aligned.
 #[repr(C)]
 pub struct Switch {
     pub number: Number,
     pub counter: Counter,
     pub committed: Stamp,
-    pub direct: bool,
     pub objects: [Object; SLOTS],
     pub stamps: [Stamp; SLOTS],
+    pub direct: bool,
 }
 
 // The switch after an object was to be marked, whether it was, and the stamp that the write got.

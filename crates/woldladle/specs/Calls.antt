@@ -40,20 +40,17 @@ valueIn Done = 0
 valueIn (Finished o v) = v
 valueIn (Refused r) = 0
 
--- a session after a start or a step, with so many places for packets
-unfoldable pub sessionOf : ℕ → ℕ → Stepped → Session
-sessionOf refusal places t = record {
-  refusal = refusal;
-  operation = operationIn (t .answer);
-  value = valueIn (t .answer);
-  waiting = heldIn places (t .count);
-  marks = countedMarks (t .state .switch);
-  count = t .count;
-  state = t .state;
+-- a session after a start: no packet waits and no mark counts
+unfoldable pub sessionStarted : ℕ → Session
+sessionStarted n = record {
+  refusal = refusalIn (startAnswer n .answer);
+  operation = 0;
+  value = 0;
+  waiting = 0;
+  marks = 0;
+  count = startAnswer n .count;
+  state = startAnswer n .state;
 }
-
-abbrev pub sessionStarted : ℕ → Session
-sessionStarted n = sessionOf (refusalIn (startAnswer n .answer)) limits.waiting (startAnswer n)
 
 -- too few places are lent for the packets: refusal 15, and nothing is done
 unfoldable pub tooFew : ℕ → Bool
@@ -67,8 +64,20 @@ wholeStep Found.Malformed size = Start 0
 unfoldable pub askedBy : ℕ → List ℕ → Step
 askedBy places bytes = cond (tooFew places) (Start 0) (wholeStep (recordAt bytes 0) (length bytes))
 
+unfoldable pub refusalAfter : ℕ → Answer → ℕ
+refusalAfter places a = cond (tooFew places) (refusalNumber BufferTooShort) (refusalIn a)
+
+-- a session after a step, with so many places for packets
 unfoldable pub sessionAfter : ℕ → Stepped → Session
-sessionAfter places t = sessionOf (cond (tooFew places) (refusalNumber BufferTooShort) (refusalIn (t .answer))) places t
+sessionAfter places t = record {
+  refusal = refusalAfter places (t .answer);
+  operation = operationIn (t .answer);
+  value = valueIn (t .answer);
+  waiting = heldIn places (t .count);
+  marks = countedMarks (t .state .switch);
+  count = t .count;
+  state = t .state;
+}
 
 -- ---- lines
 

@@ -1,6 +1,6 @@
 // A whole run.
 ghost use mathlib.Core.Path.{_≡_};
-ghost use Rattle.runs.specs.Runs.{filledWith};
+ghost use Rattle.runs.specs.Contracts.{filledWith};
 
 // Everything that the run program prints for an input. How many bytes that is: crates/runs/specs/Runs.antt.
 #[no_mangle]

@@ -1,7 +1,7 @@
 // A session after a start or a step.
 ghost use mathlib.Core.Path.{_≡_};
 ghost use Rattle.protocol.specs.Steps.{startStore, startOpens};
-ghost use Rattle.woldladle.specs.Calls.{refusalIn, operationIn, valueIn, sessionOf, sessionStarted, tooFew, wholeStep, askedBy, sessionAfter};
+ghost use Rattle.woldladle.specs.Calls.{refusalIn, operationIn, valueIn, sessionStarted, tooFew, refusalAfter, wholeStep, askedBy, sessionAfter};
 use crate::Session;
 use limits::OPEN;
 use limits::Operation;
@@ -43,35 +43,23 @@ fn value_in(answer: Answer) -> u32
     }
 }
 
-fn session_of(refusal: u8, places: usize, done: Stepped) -> Session
-    ensures { λ r. ⌜ r ≡ sessionOf refusal places done ⌝ }
-{
-    let answer = done.answer;
-    let state = done.state;
-    let switch = state.switch;
-    let count = done.count;
-    let operation = operation_in(answer);
-    let value = value_in(answer);
-    let waiting = waiting::held(places, count);
-    let marks = switch.count();
-    Session {
-        refusal,
-        operation,
-        value,
-        waiting,
-        marks,
-        count,
-        state,
-    }
-}
-
+// An empty store: no packet waits, and no mark counts.
 pub fn begin(cells: &mut [u32; CELLS], opens: &mut [Operation; OPEN], n: u8) -> Session
     ensures { λ r. ⌜ (r ≡ sessionStarted n) × (now (cells .exit) ≡ startStore n (now (cells .entry))) × (now (opens .exit) ≡ startOpens n (now (opens .entry))) ⌝ }
 {
     let done = machine::start(n, &mut *cells, &mut *opens);
     let answer = done.answer;
+    let state = done.state;
     let refusal = refusal_in(answer);
-    session_of(refusal, WAITING, done)
+    Session {
+        refusal,
+        operation: 0,
+        value: 0,
+        waiting: 0,
+        marks: 0,
+        count: done.count,
+        state,
+    }
 }
 
 fn too_few(places: usize) -> bool
@@ -99,15 +87,35 @@ pub fn asked(places: usize, bytes: &[u8]) -> Step
     whole_step(records::record_at(bytes, 0), bytes.len())
 }
 
+fn refusal_after(places: usize, answer: Answer) -> u8
+    ensures { λ r. ⌜ r ≡ refusalAfter places answer ⌝ }
+{
+    if too_few(places) {
+        return lines::refusal_number(Refusal::BufferTooShort);
+    }
+    refusal_in(answer)
+}
+
 // The session after a step.
 pub fn noted(places: usize, done: Stepped) -> Session
     ensures { λ r. ⌜ r ≡ sessionAfter places done ⌝ }
 {
-    if too_few(places) {
-        let refusal = lines::refusal_number(Refusal::BufferTooShort);
-        return session_of(refusal, places, done);
-    }
     let answer = done.answer;
-    let refusal = refusal_in(answer);
-    session_of(refusal, places, done)
+    let state = done.state;
+    let switch = state.switch;
+    let count = done.count;
+    let refusal = refusal_after(places, answer);
+    let operation = operation_in(answer);
+    let value = value_in(answer);
+    let waiting = waiting::held(places, count);
+    let marks = switch.count();
+    Session {
+        refusal,
+        operation,
+        value,
+        waiting,
+        marks,
+        count,
+        state,
+    }
 }

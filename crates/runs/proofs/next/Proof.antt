@@ -56,7 +56,8 @@ use Rattle.machine.proofs.step.Met as st-thm
 use Rattle.runs.specs.declared.Run.{Run}
 use Rattle.runs.specs.declared.Ran.{Ran}
 use Rattle.runs.specs.declared.Turn.{Turn}
-use Rattle.runs.specs.Runs.{Concluded, Concludes, readNext, turnOf, concluded}
+use Rattle.runs.specs.Runs.{readNext}
+use Rattle.runs.specs.Contracts.{Concluded, Concludes, turnOf, concluded}
 use Rattle.runs.proofs.Turns.{modelOf, next-gives}
 use Rattle.runs.proofs.Run as TR
 use Rattle.runs.proofs.Run.Laws as TR′

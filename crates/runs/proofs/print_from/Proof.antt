@@ -54,7 +54,7 @@ use Rattle.waiting.proofs.Packet.Laws as T′
 use Rattle.waiting.proofs.Parts.{vals, word}
 use Rattle.machine.proofs.Lent.{Store, Opens}
 use Rattle.runs.specs.declared.Run.{Run}
-use Rattle.runs.specs.Runs.{Filled, standsAs, filled}
+use Rattle.runs.specs.Contracts.{Filled, standsAs, filled}
 use Rattle.runs.proofs.Run as TR
 use Rattle.runs.proofs.Run.Laws as TR′
 use Rattle.runs.proofs.Lent.{Loan, loan, token, shared-slice, held-ref, ended-ref, held-slice, ended-slice, Lists, handed, run-vals, Resting, to-rest, goes-rest, Gave, Filled-up, gives-rest}

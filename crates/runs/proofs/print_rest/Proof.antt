@@ -47,7 +47,7 @@ use Rattle.waiting.proofs.Parts.{head-of, tail-of, in-block, in-loop}
 use Rattle.machine.proofs.Lent.{Store, Opens}
 use Rattle.runs.specs.declared.Run.{Run}
 use Rattle.runs.specs.declared.Ran.{Ran}
-use Rattle.runs.specs.Runs.{standsAs, filled}
+use Rattle.runs.specs.Contracts.{standsAs, filled}
 use Rattle.runs.proofs.Filling.{filled-again, fewer-left, none-left}
 use Rattle.runs.proofs.Run as TR
 use Rattle.runs.proofs.Run.Laws as TR′

@@ -1,6 +1,7 @@
 use Rattle.protocol.specs.Steps.{startAnswer}
 use Rattle.waiting.specs.Waiting.{noneWait}
-use Rattle.runs.specs.Runs.{standsAs, startedWith}
+use Rattle.runs.specs.Runs.{startedWith}
+use Rattle.runs.specs.Contracts.{standsAs}
 use borrow.Author.Needs.{needs}
 use Rattle.runs.proofs.start_with.Statement.{statement}
 use Rattle.runs.proofs.start_with.Tie as tie

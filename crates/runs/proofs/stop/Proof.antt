@@ -1,7 +1,8 @@
 use mathlib.Core.Path.{refl}
 use Rattle.protocol.specs.Steps.{startAnswer, startStore, startOpens, startRefused}
 use Rattle.waiting.specs.Waiting.{noneWait}
-use Rattle.runs.specs.Runs.{standsAs, stopped, turnsLeft}
+use Rattle.runs.specs.Runs.{stopped}
+use Rattle.runs.specs.Contracts.{standsAs, turnsLeft}
 use borrow.Author.Needs.{needs}
 use Rattle.runs.proofs.stop.Statement.{statement}
 use Rattle.runs.proofs.stop.Tie as tie

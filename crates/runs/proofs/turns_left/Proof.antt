@@ -1,4 +1,4 @@
-use Rattle.runs.specs.Runs.{turnsLeft}
+use Rattle.runs.specs.Contracts.{turnsLeft}
 use borrow.Author.Needs.{needs}
 use Rattle.runs.proofs.turns_left.Statement.{statement}
 use Rattle.runs.proofs.turns_left.Tie as tie

@@ -5,13 +5,7 @@ use Rattle.woldladle.proofs.sessions.noted.Tie as tie
 
 returns : tie.Need-returns
 unfolding sessionAfter
-returns c =
-    simp (c .session-of .ensures, c .before .refusal-number .ensures, ← c .before .before .before .too-few .ensures, c .before .before .if1 .taken)
-
-returns-2 : tie.Need-returns-2
-unfolding sessionAfter
-returns-2 c =
-    simp (c .session-of2 .ensures, c .before .refusal-in .ensures, ← c .before .before .before .too-few .ensures, c .before .before .if1 .left)
+returns c = simp (c .before .before .before .before .refusal-after .ensures, c .before .before .before .operation-in .ensures, c .before .before .value-in .ensures, c .before .held .ensures, c .count .ensures)
 
 pub noted-spec : {M : Type 1} → statement M
 noted-spec =
@@ -20,7 +14,6 @@ noted-spec =
     (λ c κs. search needs)
     (λ c κs. search needs)
     (λ c κs. search needs)
-    returns
     (λ c κs. search needs)
     (λ c κs. search needs)
-    returns-2)
+    returns)
