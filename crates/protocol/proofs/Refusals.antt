@@ -17,7 +17,7 @@ use Rattle.waiting.proofs.Laws.{edited-none}
 use Rattle.waiting.specs.Waiting.{lookAt}
 use Rattle.waiting.specs.declared.Packet.{Packet}
 use Rattle.protocol.specs.declared.Refusal.{Refusal}
-use Rattle.protocol.specs.declared.Refusal.the-variants.{Replicas}
+use Rattle.protocol.specs.declared.Refusal.the-variants.{Format, Replicas}
 use Rattle.protocol.specs.declared.Answer.{Answer}
 use Rattle.protocol.specs.declared.Answer.the-variants.{Done, Finished, Refused}
 use Rattle.protocol.specs.declared.Message.{Message}
@@ -172,6 +172,11 @@ module _ (m : Machine) (x : Step) where
   -- only a delivery finishes an operation
   pub finished-by-deliver : (o v : ℕ) → answerTo m x ≡ Finished o v → IsDeliver x
   finished-by-deliver o v e = sound (Finished o v) e
+
+-- a start that comes as a step is refused, so it changes nothing
+pub start-keeps : (m : Machine) (n : ℕ) → after m (Start n) ≡ m
+unfolding answerTo decided refusing
+start-keeps m n = refused-unchanged m (Start n) Format refl
 
 -- ---- the start
 

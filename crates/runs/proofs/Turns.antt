@@ -5,22 +5,14 @@ use Prim.Native.Nat.{ℕ, _-_}
 use lib.ListN.{length}
 use Rattle.waiting.specs.declared.Packet.{Packet}
 use Rattle.waiting.specs.Waiting.{waitingList, heldIn}
-use Rattle.protocol.specs.declared.Refusal.the-variants.{Format}
 use Rattle.protocol.specs.declared.Step.{Step}
-use Rattle.protocol.specs.declared.Step.the-variants.{Start}
-use Rattle.protocol.specs.Decisions.{refusing}
-use Rattle.protocol.specs.Steps.{Machine, machine, decided, answerTo, after, steppedBy}
-use Rattle.protocol.proofs.Refusals.{refused-unchanged}
+use Rattle.protocol.specs.Steps.{Machine, machine, after, steppedBy}
+use Rattle.protocol.proofs.Refusals.{start-keeps}
 use Rattle.records.specs.declared.Next.{Next}
 use Rattle.runs.specs.declared.Run.{Run}
 use Rattle.runs.specs.declared.Ran.{Ran}
 use Rattle.runs.specs.Runs.{continued, readNext, nextPrinted}
 use Rattle.runs.specs.Contracts.{Gives, Concludes, concluded, stepIn, standsAs, turnsLeft}
-
--- a start that comes as a step changes nothing
-start-keeps : (m : Machine) → after m (Start 0) ≡ m
-unfolding answerTo decided refusing
-start-keeps m = refused-unchanged m (Start 0) Format refl
 
 -- the machine as a run is lent it
 abbrev pub modelOf : Run → List ℕ → List ℕ → List Packet → Machine
@@ -42,13 +34,13 @@ module _ (r : Run) (store opens : List ℕ) (row : List Packet) where
     there = rw same (d .there);
   }
   turn-gives Next.End same ran buffer out used d = record {
-    stands = rw (d .run, start-keeps (modelOf r store opens row)) refl;
+    stands = rw (d .run, start-keeps (modelOf r store opens row) 0) refl;
     left = rw (d .run) refl;
     place = d .place;
     there = d .there;
   }
   turn-gives Next.Malformed same ran buffer out used d = record {
-    stands = rw (d .run, start-keeps (modelOf r store opens row)) refl;
+    stands = rw (d .run, start-keeps (modelOf r store opens row) 0) refl;
     left = rw (d .run) refl;
     place = d .place;
     there = d .there;

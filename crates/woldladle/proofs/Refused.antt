@@ -6,12 +6,10 @@ use mathlib.Core.List.{List}
 use Prim.Native.Nat.{ℕ}
 use Rattle.protocol.specs.declared.Answer.{Answer}
 use Rattle.protocol.specs.declared.Answer.the-variants.{Done, Finished, Refused}
-use Rattle.protocol.specs.declared.Refusal.the-variants.{Format}
 use Rattle.protocol.specs.declared.Step.{Step}
 use Rattle.protocol.specs.declared.Step.the-variants.{Start}
-use Rattle.protocol.specs.Decisions.{refusing}
-use Rattle.protocol.specs.Steps.{Machine, decided, answerTo, after, steppedBy}
-use Rattle.protocol.proofs.Refusals.{refused-unchanged}
+use Rattle.protocol.specs.Steps.{Machine, answerTo, after, steppedBy}
+use Rattle.protocol.proofs.Refusals.{refused-unchanged, start-keeps}
 use Rattle.woldladle.specs.Calls.{refusalIn, refusalAfter, tooFew, askedBy, sessionAfter}
 
 -- an answer with a number is a refusal
@@ -20,17 +18,13 @@ kept m x Done e h = absurd (h refl)
 kept m x (Finished o v) e h = absurd (h refl)
 kept m x (Refused r) e h = refused-unchanged m x r e
 
-start-kept : (m : Machine) → after m (Start 0) ≡ m
-unfolding answerTo decided refusing
-start-kept m = refused-unchanged m (Start 0) Format refl
-
 -- with too few places the machine is handed a start
 few-asked : (places : ℕ) (bytes : List ℕ) → tooFew places ≡ true → askedBy places bytes ≡ Start 0
 unfolding askedBy
 few-asked places bytes e = rw e refl
 
 few-kept : (m : Machine) (places : ℕ) (bytes : List ℕ) → tooFew places ≡ true → after m (askedBy places bytes) ≡ m
-few-kept m places bytes e = ap (after m) (few-asked places bytes e) ∙ start-kept m
+few-kept m places bytes e = ap (after m) (few-asked places bytes e) ∙ start-keeps m 0
 
 -- whatever the bytes, and however few the places
 pub session-unchanged : (m : Machine) (places : ℕ) (bytes : List ℕ)
