@@ -1,60 +1,53 @@
 //! Running a program on a file: its time, and the most memory that it had.
 
-use std::fs::File;
+use std::fs::{read_to_string, File};
+use std::io::Read;
 use std::path::Path;
 use std::process::{Command, Stdio};
 use std::time::Instant;
 
-/// The least time and the least of the memory peaks of several runs.
-pub struct Cost {
-    pub seconds: f64,
-    pub kibibytes: f64,
+fn command(program: &str, input: &Path) -> Command {
+    let mut command = Command::new(program);
+    command.stdin(File::open(input).expect("the input"));
+    command
 }
 
-pub fn fastest(program: &str, input: &Path, times: usize) -> Cost {
-    let runs = (0..times).map(|_| once(program, input));
-    runs.reduce(|a, b| Cost {
-        seconds: a.seconds.min(b.seconds),
-        kibibytes: a.kibibytes.min(b.kibibytes),
-    })
-    .expect("at least one run")
-}
-
-fn once(program: &str, input: &Path) -> Cost {
+/// The time of one run, from its start to its end, in seconds.
+pub fn seconds(program: &str, input: &Path) -> f64 {
+    let mut command = command(program, input);
+    command.stdout(Stdio::null());
     let start = Instant::now();
-    let child = Command::new(program)
-        .stdin(File::open(input).expect("the input"))
-        .stdout(Stdio::null())
-        .spawn()
-        .expect("the program starts");
-    let kibibytes = peak(child.id());
-    Cost {
-        seconds: start.elapsed().as_secs_f64(),
-        kibibytes,
+    let status = command.status().expect("the program starts");
+    let seconds = start.elapsed().as_secs_f64();
+    assert!(status.success(), "{program} failed");
+    seconds
+}
+
+/// The most memory of one run, in KiB: the largest resident size so far, VmHWM
+/// in Linux's account of the running process. It is looked up whenever a piece
+/// of the output has been taken, while the program waits to write the rest: its
+/// output has to be larger than a pipe, 64 KiB.
+///
+/// What `wait4` says of an ended process (`ru_maxrss`) would not do. It begins
+/// with what the process had before it became the program, here all of this one,
+/// and it is coarser by a hundred KiB and more.
+pub fn kibibytes(program: &str, input: &Path) -> f64 {
+    let mut command = command(program, input);
+    command.stdout(Stdio::piped());
+    let mut child = command.spawn().expect("the program starts");
+    let mut output = child.stdout.take().expect("it is piped");
+    let mut piece = [0; 4096];
+    let mut largest = None;
+    while output.read(&mut piece).expect("its output") > 0 {
+        largest = high_water(child.id()).or(largest);
     }
+    assert!(child.wait().expect("it ends").success(), "{program} failed");
+    largest.expect("an output larger than a pipe")
 }
 
-/// Linux's `struct rusage`: two times, then the largest resident size in KiB.
-#[repr(C)]
-struct Usage {
-    times: [i64; 4],
-    largest: i64,
-    rest: [i64; 13],
-}
-
-extern "C" {
-    fn wait4(process: i32, status: *mut i32, options: i32, usage: *mut Usage) -> i32;
-}
-
-/// Waits for a child to end, and gives its largest resident size.
-fn peak(process: u32) -> f64 {
-    let mut status = 0;
-    let mut usage = Usage {
-        times: [0; 4],
-        largest: 0,
-        rest: [0; 13],
-    };
-    let ended = unsafe { wait4(process as i32, &mut status, 0, &mut usage) };
-    assert!(ended == process as i32 && status == 0, "the program failed");
-    usage.largest as f64
+/// The line VmHWM of a process, which is not there once it has ended.
+fn high_water(process: u32) -> Option<f64> {
+    let status = read_to_string(format!("/proc/{process}/status")).ok()?;
+    let line = status.lines().find_map(|l| l.strip_prefix("VmHWM:"))?;
+    line.split_whitespace().next()?.parse().ok()
 }

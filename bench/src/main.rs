@@ -1,6 +1,6 @@
-//! `bench RUN SECOND-RUN`: the proved model against the second one, in plain
-//! Rust, in one run and on the same inputs. A ratio above 1 means that the
-//! proved model is the faster, or the smaller.
+//! `bench RUN SECOND-RUN [--rounds N]`: the proved model against the second
+//! one, in plain Rust, in one run and on the same inputs. A ratio above 1 means
+//! that the proved model is the faster, or the smaller.
 
 mod child;
 mod table;
@@ -11,11 +11,37 @@ use second_model::records::{self, Record};
 use second_model::run::output;
 use std::hint::black_box;
 use std::time::Instant;
-use table::Table;
 use woldladle::{run, Model, OUTPUT_ROOM};
 
 const LONGEST: usize = 65_536;
 const SEED: u64 = 7;
+const ROUNDS: usize = 100;
+
+#[derive(Clone, Copy)]
+enum Side {
+    Ours,
+    Theirs,
+}
+
+fn main() {
+    let arguments: Vec<String> = std::env::args().skip(1).collect();
+    let words: Vec<&str> = arguments.iter().map(String::as_str).collect();
+    let (programs, rounds) = match words[..] {
+        [ours, theirs] => ([ours, theirs], ROUNDS),
+        [ours, theirs, "--rounds", n] => ([ours, theirs], n.parse().unwrap_or(0)),
+        _ => ([""; 2], 0),
+    };
+    if rounds == 0 {
+        eprintln!("usage: bench RUN SECOND-RUN [--rounds N]     N from 1 ({ROUNDS})");
+        std::process::exit(2);
+    }
+    let inputs: Vec<_> = kinds()
+        .map(|kind| (kind, generate(kind, SEED, LONGEST).expect("a kind")))
+        .collect();
+    steps(rounds, &inputs);
+    processes(rounds, &inputs, programs);
+    growth(rounds);
+}
 
 /// The kinds whose files run to their end.
 fn kinds() -> impl Iterator<Item = &'static str> {
@@ -24,42 +50,42 @@ fn kinds() -> impl Iterator<Item = &'static str> {
     names.filter(move |name| !ends.contains(name))
 }
 
-fn main() {
-    let mut arguments = std::env::args().skip(1);
-    let (Some(ours), Some(theirs)) = (arguments.next(), arguments.next()) else {
-        eprintln!("usage: bench RUN SECOND-RUN");
-        std::process::exit(2);
-    };
-    steps();
-    programs(&ours, &theirs);
-    growth();
+/// For each row the least cost of ours and of theirs. A round takes every row
+/// once, both sides right after each other; who begins changes with the round.
+fn least(rounds: usize, rows: usize, cost: impl Fn(usize, Side) -> f64) -> Vec<[f64; 2]> {
+    let mut least = vec![[f64::INFINITY; 2]; rows];
+    for round in 0..rounds {
+        for (row, least) in least.iter_mut().enumerate() {
+            for turn in [round % 2, (round + 1) % 2] {
+                let side = [Side::Ours, Side::Theirs][turn];
+                least[turn] = least[turn].min(cost(row, side));
+            }
+        }
+    }
+    least
 }
 
-/// The least of several timings of `work`, in seconds.
-fn fastest(times: usize, mut work: impl FnMut()) -> f64 {
-    let timings = (0..times).map(|_| {
-        let start = Instant::now();
-        work();
-        start.elapsed().as_secs_f64()
-    });
-    timings.fold(f64::INFINITY, f64::min)
+fn timed(work: impl FnOnce()) -> f64 {
+    let start = Instant::now();
+    work();
+    start.elapsed().as_secs_f64()
 }
 
 /// (a) Steps through the exported library, and the second model called in the
 /// same way: the bytes of one record in, the answer and both counts out.
-fn steps() {
+fn steps(rounds: usize, inputs: &[(&str, Vec<u8>)]) {
+    let pieces: Vec<_> = inputs.iter().map(|(_, f)| records::pieces(f)).collect();
+    let costs = least(rounds, inputs.len(), |row, side| {
+        let (start, rest) = pieces[row].split_first().expect("a start");
+        let seconds = timed(|| match side {
+            Side::Ours => step_ours(start[3], rest),
+            Side::Theirs => step_theirs(start[3], rest),
+        });
+        seconds * 1e9 / rest.len() as f64
+    });
+    let names = inputs.iter().map(|(kind, _)| kind);
     let head = ["(a) steps", "ours, ns", "second, ns", "ratio"];
-    let mut table = Table::new(head);
-    for kind in kinds() {
-        let file = generate(kind, SEED, LONGEST).expect("a kind");
-        let pieces = records::pieces(&file);
-        let (start, rest) = pieces.split_first().expect("a start");
-        let ours = fastest(15, || step_ours(start[3], rest));
-        let theirs = fastest(15, || step_theirs(start[3], rest));
-        let each = |seconds: f64| seconds * 1e9 / rest.len() as f64;
-        table.row(kind, each(ours), each(theirs), theirs / ours);
-    }
-    table.print();
+    table::print(head, names, &costs);
 }
 
 fn step_ours(n: u8, records: &[&[u8]]) {
@@ -88,25 +114,24 @@ fn step_second(model: &mut Second, record: &[u8]) -> Option<Answer> {
 
 /// (b) The run program and the second model's, on a file of each kind, and (c)
 /// the most memory that each had.
-fn programs(ours: &str, theirs: &str) {
-    let mut times = Table::new(["(b) programs", "ours, ms", "second, ms", "ratio"]);
-    let mut sizes = Table::new(["(c) memory", "ours, KiB", "second, KiB", "ratio"]);
-    let path = std::env::temp_dir().join(format!("bench-{}.records", std::process::id()));
-    for kind in kinds() {
-        let file = generate(kind, SEED, LONGEST).expect("a kind");
-        std::fs::write(&path, &file).expect("a temporary file");
-        let [a, b] = [ours, theirs].map(|program| child::fastest(program, &path, 40));
-        times.row(
-            kind,
-            a.seconds * 1e3,
-            b.seconds * 1e3,
-            b.seconds / a.seconds,
-        );
-        sizes.row(kind, a.kibibytes, b.kibibytes, b.kibibytes / a.kibibytes);
+fn processes(rounds: usize, inputs: &[(&str, Vec<u8>)], programs: [&str; 2]) {
+    let folder = std::env::temp_dir().join(format!("bench-{}", std::process::id()));
+    std::fs::create_dir(&folder).expect("a temporary folder");
+    for (kind, file) in inputs {
+        std::fs::write(folder.join(kind), file).expect("a temporary file");
     }
-    std::fs::remove_file(&path).expect("it was there");
-    times.print();
-    sizes.print();
+    let names = || inputs.iter().map(|(kind, _)| kind);
+    let times = least(rounds, inputs.len(), |row, side| {
+        child::seconds(programs[side as usize], &folder.join(inputs[row].0)) * 1e3
+    });
+    let head = ["(b) programs", "ours, ms", "second, ms", "ratio"];
+    table::print(head, names(), &times);
+    let sizes = least(rounds, inputs.len(), |row, side| {
+        child::kibibytes(programs[side as usize], &folder.join(inputs[row].0))
+    });
+    let head = ["(c) memory", "ours, KiB", "second, KiB", "ratio"];
+    table::print(head, names(), &sizes);
+    std::fs::remove_dir_all(&folder).expect("it was there");
 }
 
 /// A file of many short records: reads that are begun, lost and given up.
@@ -122,19 +147,18 @@ fn short_records(count: usize) -> Vec<u8> {
 }
 
 /// (d) How the time of a whole run grows with its records.
-fn growth() {
-    let mut table = Table::new(["(d) records", "ours, ns each", "second, ns each", "ratio"]);
-    let mut out = vec![0; OUTPUT_ROOM];
-    for count in (1_000..=13_000).step_by(2_000) {
-        let input = short_records(count);
-        let ours = fastest(15, || {
-            black_box(run(&input, &mut out));
+fn growth(rounds: usize) {
+    let counts: Vec<usize> = (1_000..=13_000).step_by(2_000).collect();
+    let inputs: Vec<_> = counts.iter().map(|&count| short_records(count)).collect();
+    let out = std::cell::RefCell::new(vec![0; OUTPUT_ROOM]);
+    let costs = least(rounds, counts.len(), |row, side| {
+        let mut out = out.borrow_mut();
+        let seconds = timed(|| match side {
+            Side::Ours => drop(black_box(run(&inputs[row], &mut out))),
+            Side::Theirs => drop(black_box(output(&inputs[row]))),
         });
-        let theirs = fastest(15, || {
-            black_box(output(&input));
-        });
-        let each = |seconds: f64| seconds * 1e9 / count as f64;
-        table.row(&count.to_string(), each(ours), each(theirs), theirs / ours);
-    }
-    table.print();
+        seconds * 1e9 / counts[row] as f64
+    });
+    let head = ["(d) records", "ours, ns each", "second, ns each", "ratio"];
+    table::print(head, counts.iter(), &costs);
 }

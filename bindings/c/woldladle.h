@@ -1,14 +1,19 @@
-/* The proved model, for callers in C. Link target/staticlib/libwoldladle.a (`rt staticlib woldladle` writes it), on x86-64.
+/* The proved model, for callers in C, on x86-64. Two archives, of which a caller links one or both:
  *
- * What a caller lends, and nothing else: the library allocates no memory and keeps nothing between calls.
+ *   target/staticlib/libwoldladle.a        sessions, step by step (`rt staticlib woldladle` writes it)
+ *   target/staticlib/libwoldladle_runs.a   whole runs, woldladle_run (`rt staticlib woldladle_runs`)
  *
- *   struct woldladle_session   544 bytes, aligned to 8
- *   uint32_t cells[16640]      66,560 bytes: the values and stamps of the replicas, and the writes in the links
- *   uint32_t opens[64]         256 bytes: the open operations
- *   packets[64]                1,280 bytes: the waiting packets, oldest first; a longer array is taken too, and its first 64 places are used
+ * What a session is lent, and nothing else: the libraries allocate no memory and keep nothing between calls.
  *
- * The session is set to zeros before its first start; the rest may hold anything. From the start on nobody but the library writes in it, until the next start.
- * No pointer is kept. Lengths are in bytes, of `packets` in places. Every value of every argument is taken: what is not allowed is refused by document 01's number.
+ *   struct woldladle_session        24 bytes, aligned to 8
+ *   uint32_t switch_numbers[100]    400 bytes: the switch and its marks
+ *   uint32_t store[16673]           66,692 bytes: the chain, the values and stamps of the replicas, and the writes in the links
+ *   uint32_t opens[66]              264 bytes: the open operations
+ *   packets[64]                     1,280 bytes: the waiting packets, oldest first; a longer array is taken too, and its first 64 places are used
+ *
+ * struct woldladle_model has all of it. The session is set to zeros before its first start; the rest may hold anything. From an accepted start on nobody but the
+ * library writes in it, until the next accepted start. No pointer is kept, and what is lent lies apart. Lengths are in bytes, of `packets` in places. Every value of
+ * every argument is taken: what is not allowed is refused by document 01's number.
  */
 #ifndef WOLDLADLE_H
 #define WOLDLADLE_H
@@ -20,38 +25,38 @@
 extern "C" {
 #endif
 
-#define WOLDLADLE_CELLS 16640
-#define WOLDLADLE_OPENS 64
+#define WOLDLADLE_SWITCH 100
+#define WOLDLADLE_STORE 16673
+#define WOLDLADLE_OPENS 66
 #define WOLDLADLE_PLACES 64
 #define WOLDLADLE_LONGEST_RECORD 9
 #define WOLDLADLE_LONGEST_LINE 58
 #define WOLDLADLE_LONGEST_INPUT 65536
 #define WOLDLADLE_OUTPUT_ROOM 1048576 /* room for the output of any input */
 
-/* The answer of the last start or step, and the machine's own state. */
+/* The answer of the last start or step. */
 struct woldladle_session {
-    uint8_t refusal;    /* 0, or the number of the refusal: then all that is lent is as it was, but for these five fields */
+    uint8_t refusal;    /* 0, or the number of the refusal: then `marks`, `waiting` and all that is lent are as they were */
     uint32_t operation; /* the operation just finished, or 0 */
-    uint32_t value;     /* and its value */
-    size_t waiting;     /* packets waiting */
-    size_t marks;       /* marks counting */
-    uint64_t own[64];   /* the machine's own */
+    uint32_t value;     /* and its value, or 0 */
+    uint32_t marks;     /* marks counting */
+    size_t waiting;     /* packets waiting, which the next step begins with */
 };
 
 struct woldladle_packet {
     uint32_t own[5];
 };
 
-/* A start with n replicas. Refusal 2 (n outside 1 to 8): there is no state to step. */
-void woldladle_start(struct woldladle_session *session, uint32_t *cells, uint32_t *opens, uint8_t n);
+/* A start with n replicas: an empty store, and the session all zeros. Refusal 2 (n outside 1 to 8): the session before it can go on. */
+void woldladle_start(struct woldladle_session *session, uint32_t *switch_numbers, uint32_t *store, uint32_t *opens, uint8_t n);
 
-/* The step of one record, all of whose `length` bytes are lent. Refusals 1 and 3 to 13 as document 01 has them; 1 for a start too; 15 where there are fewer than 64
- * places for packets. */
-void woldladle_step(struct woldladle_session *session, uint32_t *cells, uint32_t *opens, struct woldladle_packet *packets, size_t places,
+/* The step of one record, all of whose `length` bytes are lent. Refusals in this order: 1 where the bytes are not one whole record, and for a start; 15 where there are
+ * fewer than 64 places for packets; 3 to 13 as document 01 has them. */
+void woldladle_step(struct woldladle_session *session, uint32_t *switch_numbers, uint32_t *store, uint32_t *opens, struct woldladle_packet *packets, size_t places,
                     const uint8_t *record, size_t length);
 
-/* The line that the run program prints for record `number`, from the session's first five fields. How many bytes, 0 where `out` is too short and left as it was. */
-size_t woldladle_line(uint32_t number, uint8_t refusal, uint32_t operation, uint32_t value, size_t waiting, size_t marks, uint8_t *out, size_t length);
+/* The line that the run program prints for record `number`, from the session's fields. How many bytes, 0 where `out` is too short and left as it was. */
+size_t woldladle_line(uint32_t number, uint8_t refusal, uint32_t operation, uint32_t value, size_t waiting, uint32_t marks, uint8_t *out, size_t length);
 
 /* Writes the record of a tag with its numbers in their order, 0 for one that it does not have. 0; or 1 where no such record exists; or 15 where `out` is too short. */
 uint8_t woldladle_write_record(uint8_t tag, uint32_t first, uint32_t second, uint8_t *out, size_t length);
@@ -60,11 +65,37 @@ uint8_t woldladle_write_record(uint8_t tag, uint32_t first, uint32_t second, uin
 uint16_t woldladle_record_length(uint8_t tag);
 
 /* The value and the stamp (switch number times 65,536, and counter) of an object at a replica, removed or not; 0 where there is no such replica or object. */
-uint32_t woldladle_value(const uint32_t *cells, uint8_t replica, uint32_t object);
-uint32_t woldladle_stamp(const uint32_t *cells, uint8_t replica, uint32_t object);
+uint32_t woldladle_value(const uint32_t *store, uint8_t replica, uint32_t object);
+uint32_t woldladle_stamp(const uint32_t *store, uint8_t replica, uint32_t object);
 
-/* Everything that the run program prints for a file of records. How many bytes. */
+/* Everything that the run program prints for a file of records. How many bytes the whole output has, whatever `room` is: `out` holds its whole lines, from the front up
+ * to the first that does not fit, and every byte after them is as it was. It takes 70 KB of stack. */
 size_t woldladle_run(const uint8_t *input, size_t length, uint8_t *out, size_t room);
+
+/* All that a session is lent, and the calls over it. */
+struct woldladle_model {
+    struct woldladle_session session;
+    uint32_t switch_numbers[WOLDLADLE_SWITCH];
+    uint32_t store[WOLDLADLE_STORE];
+    uint32_t opens[WOLDLADLE_OPENS];
+    struct woldladle_packet packets[WOLDLADLE_PLACES];
+};
+
+/* The refusal, or 0. */
+static inline uint8_t woldladle_model_start(struct woldladle_model *model, uint8_t n) {
+    woldladle_start(&model->session, model->switch_numbers, model->store, model->opens, n);
+    return model->session.refusal;
+}
+
+static inline uint8_t woldladle_model_step(struct woldladle_model *model, const uint8_t *record, size_t length) {
+    woldladle_step(&model->session, model->switch_numbers, model->store, model->opens, model->packets, WOLDLADLE_PLACES, record, length);
+    return model->session.refusal;
+}
+
+static inline size_t woldladle_model_line(const struct woldladle_model *model, uint32_t number, uint8_t *out, size_t length) {
+    const struct woldladle_session *s = &model->session;
+    return woldladle_line(number, s->refusal, s->operation, s->value, s->waiting, s->marks, out, length);
+}
 
 #ifdef __cplusplus
 }

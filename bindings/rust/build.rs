@@ -1,4 +1,5 @@
-//! Links the static library that `rt staticlib woldladle` writes.
+//! Links the static libraries that `rt staticlib woldladle` and
+//! `rt staticlib woldladle_runs` write.
 
 fn main() {
     let folder = std::env::var("WOLDLADLE_LIB").unwrap_or_else(|_| {
@@ -6,7 +7,9 @@ fn main() {
         format!("{here}/../../target/staticlib")
     });
     println!("cargo:rustc-link-search=native={folder}");
-    println!("cargo:rustc-link-lib=static=woldladle");
     println!("cargo:rerun-if-env-changed=WOLDLADLE_LIB");
-    println!("cargo:rerun-if-changed={folder}/libwoldladle.a");
+    for library in ["woldladle", "woldladle_runs"] {
+        println!("cargo:rustc-link-lib=static={library}");
+        println!("cargo:rerun-if-changed={folder}/lib{library}.a");
+    }
 }

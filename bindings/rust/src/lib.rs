@@ -3,7 +3,7 @@
 
 mod raw;
 
-use raw::{Packet, Session, CELLS, OPENS, PLACES};
+use raw::{Packet, Session, OPENS, PLACES, STORE, SWITCH};
 
 /// The most bytes that a record, a line and an input have, and room for the
 /// output of any input.
@@ -24,7 +24,8 @@ pub enum Answer {
 #[derive(Clone)]
 pub struct Model {
     session: Session,
-    cells: Box<[u32; CELLS]>,
+    switch: [u32; SWITCH],
+    store: Box<[u32; STORE]>,
     opens: [u32; OPENS],
     packets: [Packet; PLACES],
 }
@@ -34,35 +35,52 @@ impl Model {
     pub fn start(n: u8) -> Result<Model, u8> {
         let mut model = Model {
             session: Session::default(),
-            cells: vec![0; CELLS].try_into().expect("as many as that"),
+            switch: [0; SWITCH],
+            store: vec![0; STORE].try_into().expect("as many as that"),
             opens: [0; OPENS],
             packets: [Packet::default(); PLACES],
         };
+        model.restart(n).map(|()| model)
+    }
+
+    /// An empty store of `n` replicas in place of this one, or refusal 2, which
+    /// leaves this one to go on.
+    pub fn restart(&mut self, n: u8) -> Result<(), u8> {
         // The pointers are to the fields, which have the sizes that the header names.
         unsafe {
             raw::woldladle_start(
-                &mut model.session,
-                model.cells.as_mut_ptr(),
-                model.opens.as_mut_ptr(),
+                &mut self.session,
+                self.switch.as_mut_ptr(),
+                self.store.as_mut_ptr(),
+                self.opens.as_mut_ptr(),
                 n,
             )
         };
-        match model.session.refusal {
-            0 => Ok(model),
+        match self.session.refusal {
+            0 => Ok(()),
             refusal => Err(refusal),
         }
     }
 
     /// The step of one record.
+    #[inline]
     pub fn step(&mut self, record: &[u8]) -> Answer {
-        // As in `start`; `record` is lent for the call only.
+        self.step_within(PLACES, record)
+    }
+
+    /// The same, where only so many of the places are lent.
+    #[inline]
+    fn step_within(&mut self, places: usize, record: &[u8]) -> Answer {
+        assert!(places <= PLACES);
+        // As in `restart`; `record` is lent for the call only.
         unsafe {
             raw::woldladle_step(
                 &mut self.session,
-                self.cells.as_mut_ptr(),
+                self.switch.as_mut_ptr(),
+                self.store.as_mut_ptr(),
                 self.opens.as_mut_ptr(),
                 self.packets.as_mut_ptr(),
-                PLACES,
+                places,
                 record.as_ptr(),
                 record.len(),
             )
@@ -78,17 +96,20 @@ impl Model {
     }
 
     /// How many packets wait.
+    #[inline]
     pub fn waiting(&self) -> usize {
         self.session.waiting
     }
 
     /// How many marks count.
+    #[inline]
     pub fn marks(&self) -> usize {
-        self.session.marks
+        self.session.marks as usize
     }
 
     /// The line of the last step, as record `number`: how many bytes of `out`
     /// it takes, 0 where that is too short.
+    #[inline]
     pub fn line(&self, number: u32, out: &mut [u8]) -> usize {
         let s = &self.session;
         let (to, room) = (out.as_mut_ptr(), out.len());
@@ -107,31 +128,35 @@ impl Model {
     }
 
     /// The value of an object at a replica, 0 where there is none.
+    #[inline]
     pub fn value(&self, replica: u8, object: u32) -> u32 {
-        unsafe { raw::woldladle_value(self.cells.as_ptr(), replica, object) }
+        unsafe { raw::woldladle_value(self.store.as_ptr(), replica, object) }
     }
 
     /// Its stamp: the switch number times 65,536, and the counter.
+    #[inline]
     pub fn stamp(&self, replica: u8, object: u32) -> u32 {
-        unsafe { raw::woldladle_stamp(self.cells.as_ptr(), replica, object) }
+        unsafe { raw::woldladle_stamp(self.store.as_ptr(), replica, object) }
     }
 
-    /// All that the machine works in, as bytes, but for the answer of the last
-    /// step: for tests that a refusal changes nothing.
+    /// All that the next step begins with, as bytes: for tests that a refusal
+    /// changes nothing.
     pub fn bytes(&self) -> Vec<u8> {
-        let numbers = self.cells.iter().chain(&self.opens);
+        let numbers = self.switch.iter().chain(&*self.store).chain(&self.opens);
         let packets = self.packets.iter().flat_map(|p| &p.own);
         let mut bytes: Vec<u8> = numbers
             .chain(packets)
+            .chain([&self.session.marks])
             .flat_map(|n| n.to_le_bytes())
             .collect();
-        bytes.extend(self.session.machine_bytes());
+        bytes.extend(self.session.waiting.to_le_bytes());
         bytes
     }
 }
 
 /// Writes the record of a tag with its numbers, 0 for one that it does not
 /// have, at the start of `out`: how many bytes it has, or refusal 1 or 15.
+#[inline]
 pub fn write_record(tag: u8, first: u32, second: u32, out: &mut [u8]) -> Result<usize, u8> {
     let (to, room) = (out.as_mut_ptr(), out.len());
     match unsafe { raw::woldladle_write_record(tag, first, second, to, room) } {
@@ -141,12 +166,14 @@ pub fn write_record(tag: u8, first: u32, second: u32, out: &mut [u8]) -> Result<
 }
 
 /// How many bytes the record of a tag has, 0 for an unknown tag.
+#[inline]
 pub fn record_length(tag: u8) -> usize {
     usize::from(unsafe { raw::woldladle_record_length(tag) })
 }
 
-/// Everything that the run program prints for an input: how many bytes of `out`
-/// it takes. A line that has no room is left out.
+/// Everything that the run program prints for an input: how many bytes it has,
+/// whatever the room. `out` holds its whole lines, from the front up to the first
+/// that does not fit; every byte after them is as it was.
 pub fn run(input: &[u8], out: &mut [u8]) -> usize {
     unsafe { raw::woldladle_run(input.as_ptr(), input.len(), out.as_mut_ptr(), out.len()) }
 }
@@ -155,31 +182,43 @@ pub fn run(input: &[u8], out: &mut [u8]) -> usize {
 mod tests {
     use super::*;
 
+    const BEGIN_A_READ: [u8; 5] = [1, 0, 2, 0, 5];
+
     #[test]
     fn fewer_than_64_places_are_refused_by_15() {
         let mut model = Model::start(2).expect("two");
+        assert_eq!(model.step(&BEGIN_A_READ), Answer::Done);
         let before = model.bytes();
-        let record = [1, 0, 2, 0, 5];
-        for (places, refusal) in [(0, 15), (63, 15), (64, 0)] {
-            unsafe {
-                raw::woldladle_step(
-                    &mut model.session,
-                    model.cells.as_mut_ptr(),
-                    model.opens.as_mut_ptr(),
-                    model.packets.as_mut_ptr(),
-                    places,
-                    record.as_ptr(),
-                    record.len(),
-                )
-            };
-            assert_eq!(model.session.refusal, refusal);
-            assert_eq!(model.bytes() == before, refusal != 0);
+        for places in 0..PLACES {
+            let answer = model.step_within(places, &BEGIN_A_READ);
+            assert_eq!(answer, Answer::Refused(15), "{places}");
+            assert!(model.bytes() == before, "{places}");
+        }
+        assert_eq!(model.step_within(PLACES, &BEGIN_A_READ), Answer::Done);
+        assert!(model.bytes() != before);
+    }
+
+    #[test]
+    fn refusal_1_comes_before_15_and_15_before_the_rest() {
+        let mut model = Model::start(2).expect("two");
+        let before = model.bytes();
+        let no_such_object = [1, 0, 2, 255, 255];
+        for (record, places, refusal) in [
+            (&[][..], 63, 1),
+            (&[32, 0, 1, 2], 63, 1),
+            (&BEGIN_A_READ[..4], 0, 1),
+            (&[1, 0, 2, 0, 5, 0], 0, 1),
+            (&no_such_object, 63, 15),
+            (&no_such_object, 64, 3),
+        ] {
+            assert_eq!(model.step_within(places, record), Answer::Refused(refusal));
+            assert!(model.bytes() == before, "{record:?}");
         }
     }
 
     #[test]
     fn structs_have_the_sizes_of_the_header() {
-        assert_eq!(size_of::<Session>(), 544);
+        assert_eq!(size_of::<Session>(), 24);
         assert_eq!(size_of::<Packet>(), 20);
     }
 }

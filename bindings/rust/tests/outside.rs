@@ -1,5 +1,5 @@
-//! The library from outside: the same lines as the second model, refusals that
-//! change nothing, and what a file of records cannot reach.
+//! The two libraries from outside, in one program: the same lines as the second
+//! model, refusals that change nothing, and what a file of records cannot reach.
 
 use second_model::generate::{generate, Random, KINDS};
 use second_model::{records, run::output};
@@ -43,6 +43,33 @@ fn prints_what_the_second_model_prints() {
     assert!(stepped > 20, "{stepped}");
 }
 
+/// How many bytes the whole lines have that fit into so much room, from the front
+/// up to the first that does not.
+fn fitting(output: &[u8], room: usize) -> usize {
+    let ends = output.iter().enumerate().filter(|(_, b)| **b == b'\n');
+    ends.map(|(i, _)| i + 1)
+        .take_while(|end| *end <= room)
+        .last()
+        .unwrap_or(0)
+}
+
+#[test]
+fn a_short_buffer_takes_whole_lines_only() {
+    let mut random = Random::new(3);
+    for (seed, (kind, _)) in KINDS.iter().enumerate() {
+        let file = generate(kind, seed as u64, 2048).expect("a kind");
+        let expected = output(&file);
+        let rooms = (0..60).chain((0..200).map(|_| random.below(expected.len() + 20)));
+        for room in rooms {
+            let mut out = vec![0xaa; room];
+            assert_eq!(run(&file, &mut out), expected.len(), "{kind} {room}");
+            let held = fitting(&expected, room);
+            assert!(out[..held] == expected[..held], "{kind} {room}");
+            assert!(out[held..].iter().all(|b| *b == 0xaa), "{kind} {room}");
+        }
+    }
+}
+
 /// Random bytes, random fields, or a step that may be accepted.
 fn random_record(random: &mut Random) -> Vec<u8> {
     let mut record = vec![0; LONGEST_RECORD];
@@ -82,6 +109,38 @@ fn a_refusal_changes_no_byte() {
         }
     }
     assert!(refused > 1000 && done > 1000, "{refused} {done}");
+}
+
+#[test]
+fn a_refused_restart_leaves_the_session_going_on() {
+    let mut random = Random::new(7);
+    let mut model = Model::start(3).expect("three");
+    let (mut line, mut other) = ([0; LONGEST_LINE], [0; LONGEST_LINE]);
+    let mut waited = 0;
+    for number in 2..3000 {
+        let mut restarted = model.clone();
+        for n in [0, 9, 255] {
+            assert_eq!(restarted.restart(n), Err(2));
+            assert!(restarted.bytes() == model.bytes());
+        }
+        let size = restarted.line(number, &mut other);
+        assert_eq!(other[..size], *format!("{number} no 2\n").as_bytes());
+        let record = random_record(&mut random);
+        assert_eq!(restarted.step(&record), model.step(&record));
+        assert!(restarted.bytes() == model.bytes(), "{record:?}");
+        let sizes = (
+            model.line(number, &mut line),
+            restarted.line(number, &mut other),
+        );
+        assert!(sizes.0 == sizes.1 && line[..sizes.0] == other[..sizes.1]);
+        waited += usize::from(model.waiting() > 0 && model.marks() > 0);
+        model = restarted;
+    }
+    assert!(waited > 1000, "{waited}");
+    assert_eq!(model.restart(8), Ok(()));
+    assert_eq!((model.waiting(), model.marks()), (0, 0));
+    let size = model.line(1, &mut line);
+    assert_eq!(&line[..size], b"1 ok 0 0 - -\n");
 }
 
 /// Steps with these numbers.

@@ -1,13 +1,8 @@
 // Document 01, 'What delivery does': a function for each rule.
 ghost use mathlib.Core.Path.{_≡_};
-ghost use Rattle.protocol.specs.Decisions.{given, withSwitch, withChain};
-ghost use Rattle.protocol.specs.Delivery.{unstampedWrite, switchRead, answering, receiving, stampedWrite, directRead, normalRead, completion, reply, deliveredMessage};
-
-pub mod decisions;
-pub mod messages;
-
+ghost use Rattle.protocol.specs.Decisions.{given};
+ghost use Rattle.protocol.specs.Delivery.{stamping, unstampedWrite, switchRead, answering, stampedWrite, directRead, normalRead, completion, reply, deliveredMessage};
 use limits::Number;
-use limits::OPEN;
 use limits::Object;
 use limits::Operation;
 use limits::Replica;
@@ -17,88 +12,78 @@ use protocol::Answer;
 use protocol::Decision;
 use protocol::Message;
 use protocol::Refusal;
-use protocol::State;
-use replicas::CELLS;
-use replicas::Chain;
+use protocol::decisions;
+use protocol::messages;
 use replicas::Write;
+use replicas::chain;
 use replicas::store;
-use switch::Switch;
+use switch::cells;
 use waiting::Edit;
 
-pub fn with_switch(s: State, w: Switch) -> State
-    ensures { λ r. ⌜ r ≡ withSwitch s w ⌝ }
+// A write with its stamp goes to the head; (0,0) stands for none, and the write is dropped.
+fn stamp_on(
+    store: &[u32; replicas::CELLS],
+    at: usize,
+    o: Operation,
+    x: Object,
+    v: Value,
+    stamp: Stamp,
+) -> Decision
+    ensures { λ d. ⌜ d ≡ stamping (now (store .entry)) at o x v stamp ⌝ }
 {
-    let chain = s.chain;
-    State {
-        switch: w,
-        chain,
-        last: s.last,
+    if stamp == 0 {
+        return decisions::drop_packet(at);
     }
-}
-
-pub fn with_chain(s: State, c: Chain) -> State
-    ensures { λ r. ⌜ r ≡ withChain s c ⌝ }
-{
-    let switch = s.switch;
-    State {
-        switch,
-        chain: c,
-        last: s.last,
-    }
-}
-
-fn unstamped_write(s: State, at: usize, o: Operation, x: Object, v: Value) -> Decision
-    ensures { λ r. ⌜ r ≡ unstampedWrite s at o x v ⌝ }
-{
-    let chain = s.chain;
-    let switch = s.switch;
-    if !chain.all_permit(switch.number) {
-        return decisions::drop_packet(s, at);
-    }
-    let m = switch.mark(x);
-    if !m.ok {
-        return decisions::drop_packet(s, at);
-    }
-    let next = m.state;
     let w = Write {
         operation: o,
         object: x,
         value: v,
-        stamp: m.stamp,
+        stamp,
     };
-    decisions::pass_on(
-        with_switch(s, next),
-        at,
-        Message::StampedWrite(chain.head(), w),
-    )
+    decisions::pass_on(at, Message::StampedWrite(chain::head(store), w))
 }
 
-fn switch_read(s: State, at: usize, choice: u8, o: Operation, x: Object) -> Decision
-    ensures { λ r. ⌜ r ≡ switchRead s at choice o x ⌝ }
+fn unstamped_write(
+    switch: &mut [u32; switch::CELLS],
+    store: &[u32; replicas::CELLS],
+    at: usize,
+    o: Operation,
+    x: Object,
+    v: Value,
+) -> Decision
+    ensures { λ d. ⌜ (d ≡ unstampedWrite (now (switch .entry)) (now (store .entry)) at o x v .decision)
+        × (now (switch .exit) ≡ unstampedWrite (now (switch .entry)) (now (store .entry)) at o x v .switch) ⌝ }
 {
-    let chain = s.chain;
-    let switch = s.switch;
-    if !switch.direct {
-        return decisions::pass_on(s, at, Message::NormalRead(chain.tail(), o, x));
+    if !chain::all_permit(store, cells::number(switch)) {
+        return decisions::drop_packet(at);
     }
-    if switch.lookup(x) == 0 {
-        let to = chain.choose(choice);
+    let m = cells::load(switch).mark(x);
+    let next = m.state;
+    cells::store(&mut *switch, next);
+    stamp_on(store, at, o, x, v, m.stamp)
+}
+
+fn switch_read(
+    switch: &[u32; switch::CELLS],
+    store: &[u32; replicas::CELLS],
+    at: usize,
+    choice: u8,
+    o: Operation,
+    x: Object,
+) -> Decision
+    ensures { λ d. ⌜ d ≡ switchRead (now (switch .entry)) (now (store .entry)) at choice o x ⌝ }
+{
+    if !cells::is_direct(switch) {
+        return decisions::pass_on(at, Message::NormalRead(chain::tail(store), o, x));
+    }
+    if cells::lookup(switch, x) == 0 {
+        let to = chain::choose(store, choice);
         return decisions::pass_on(
-            s,
             at,
-            Message::DirectRead(to, switch.number, switch.committed, o, x),
+            Message::DirectRead(to, cells::number(switch), cells::committed(switch), o, x),
         );
     }
-    decisions::pass_on(s, at, Message::NormalRead(chain.tail(), o, x))
-}
-
-// The replica applies the write.
-fn receive(s: State, cells: &mut [u32; CELLS], r: Replica, w: Write, e: Edit) -> Decision
-    ensures { λ d. ⌜ (d ≡ receiving s (now (cells .entry)) r w e .decision) × (now (cells .exit) ≡ receiving s (now (cells .entry)) r w e .store) ⌝ }
-{
-    let chain = s.chain;
-    let next = chain.receive(&mut *cells, r, w);
-    decisions::done(with_chain(s, next), e)
+    decisions::pass_on(at, Message::NormalRead(chain::tail(store), o, x))
 }
 
 // The reply and the completion that the tail sends, in the place of the delivered write.
@@ -113,31 +98,31 @@ fn answers(at: usize, w: Write) -> Edit
 }
 
 fn stamped_write(
-    s: State,
-    cells: &mut [u32; CELLS],
+    store: &mut [u32; replicas::CELLS],
     held: usize,
     at: usize,
     r: Replica,
     w: Write,
 ) -> Decision
-    ensures { λ d. ⌜ (d ≡ stampedWrite s (now (cells .entry)) held at r w .decision) × (now (cells .exit) ≡ stampedWrite s (now (cells .entry)) held at r w .store) ⌝ }
+    ensures { λ d. ⌜ (d ≡ stampedWrite (now (store .entry)) held at r w .decision)
+        × (now (store .exit) ≡ stampedWrite (now (store .entry)) held at r w .store) ⌝ }
 {
-    let chain = s.chain;
-    if !chain.accepts(r, w.stamp) {
-        return decisions::drop_packet(s, at);
+    if !replicas::accepts(store, r, w.stamp) {
+        return decisions::drop_packet(at);
     }
-    if r != chain.tail() {
-        return receive(s, &mut *cells, r, w, decisions::take_out(at));
+    if r != chain::tail(store) {
+        replicas::take(&mut *store, r, w);
+        return decisions::drop_packet(at);
     }
     if decisions::is_overfull(held, 1, 2) {
-        return decisions::refuse(s, Refusal::WaitingFull);
+        return decisions::refuse(Refusal::WaitingFull);
     }
-    receive(s, &mut *cells, r, w, answers(at, w))
+    replicas::take(&mut *store, r, w);
+    decisions::done(answers(at, w))
 }
 
 fn direct_read(
-    s: State,
-    cells: &[u32; CELLS],
+    store: &[u32; replicas::CELLS],
     at: usize,
     r: Replica,
     number: Number,
@@ -145,81 +130,79 @@ fn direct_read(
     o: Operation,
     x: Object,
 ) -> Decision
-    ensures { λ d. ⌜ d ≡ directRead s (now (cells .entry)) at r number t o x ⌝ }
+    ensures { λ d. ⌜ d ≡ directRead (now (store .entry)) at r number t o x ⌝ }
 {
-    let chain = s.chain;
-    if !chain.is_live(r) {
-        return decisions::drop_packet(s, at);
+    if !chain::is_live(store, r) {
+        return decisions::drop_packet(at);
     }
-    if chain.answers(cells, r, x, number, t) {
-        let v = store::read_value(cells, r, x);
-        return decisions::pass_on(s, at, Message::Reply(o, v));
+    if replicas::answers(store, r, x, number, t) {
+        let v = store::read_value(store, r, x);
+        return decisions::pass_on(at, Message::Reply(o, v));
     }
-    decisions::pass_on(s, at, Message::NormalRead(chain.tail(), o, x))
+    decisions::pass_on(at, Message::NormalRead(chain::tail(store), o, x))
 }
 
 fn normal_read(
-    s: State,
-    cells: &[u32; CELLS],
+    store: &[u32; replicas::CELLS],
     at: usize,
     r: Replica,
     o: Operation,
     x: Object,
 ) -> Decision
-    ensures { λ d. ⌜ d ≡ normalRead s (now (cells .entry)) at r o x ⌝ }
+    ensures { λ d. ⌜ d ≡ normalRead (now (store .entry)) at r o x ⌝ }
 {
-    let chain = s.chain;
-    if !chain.is_live(r) {
-        return decisions::drop_packet(s, at);
+    if !chain::is_live(store, r) {
+        return decisions::drop_packet(at);
     }
-    let v = store::read_value(cells, r, x);
-    decisions::pass_on(s, at, Message::Reply(o, v))
+    let v = store::read_value(store, r, x);
+    decisions::pass_on(at, Message::Reply(o, v))
 }
 
-fn complete(s: State, at: usize, x: Object, t: Stamp) -> Decision
-    ensures { λ d. ⌜ d ≡ completion s at x t ⌝ }
+fn complete(switch: &mut [u32; switch::CELLS], at: usize, x: Object, t: Stamp) -> Decision
+    ensures { λ d. ⌜ (d ≡ completion (now (switch .entry)) at x t .decision)
+        × (now (switch .exit) ≡ completion (now (switch .entry)) at x t .switch) ⌝ }
 {
-    let switch = s.switch;
-    let next = switch.complete(x, t);
-    decisions::done(with_switch(s, next), decisions::take_out(at))
+    let next = cells::load(switch).complete(x, t);
+    cells::store(&mut *switch, next);
+    decisions::drop_packet(at)
 }
 
-fn finish(s: State, opens: &mut [Operation; OPEN], at: usize, o: Operation, v: Value) -> Decision
-    ensures { λ d. ⌜ (d ≡ reply s (now (opens .entry)) at o v .decision) × (now (opens .exit) ≡ reply s (now (opens .entry)) at o v .opens) ⌝ }
+fn finish(opens: &mut [u32; operations::CELLS], at: usize, o: Operation, v: Value) -> Decision
+    ensures { λ d. ⌜ (d ≡ reply (now (opens .entry)) at o v .decision)
+        × (now (opens .exit) ≡ reply (now (opens .entry)) at o v .opens) ⌝ }
 {
-    if !operations::is_open(opens, o) {
-        return decisions::drop_packet(s, at);
+    if !operations::close(&mut *opens, o) {
+        return decisions::drop_packet(at);
     }
-    operations::close(&mut *opens, o);
     Decision {
         answer: Answer::Finished(o, v),
-        state: s,
         edit: decisions::take_out(at),
     }
 }
 
 // What delivery of a message does.
 pub fn deliver(
-    s: State,
-    cells: &mut [u32; CELLS],
-    opens: &mut [Operation; OPEN],
+    switch: &mut [u32; switch::CELLS],
+    store: &mut [u32; replicas::CELLS],
+    opens: &mut [u32; operations::CELLS],
     held: usize,
     at: usize,
     choice: u8,
     m: Message,
 ) -> Decision
-    ensures { λ d. ⌜ (d ≡ deliveredMessage (given s (now (cells .entry)) (now (opens .entry)) held) at choice m .decision)
-        × (now (cells .exit) ≡ deliveredMessage (given s (now (cells .entry)) (now (opens .entry)) held) at choice m .store)
-        × (now (opens .exit) ≡ deliveredMessage (given s (now (cells .entry)) (now (opens .entry)) held) at choice m .opens) ⌝ }
+    ensures { λ d. ⌜ (d ≡ deliveredMessage (given (now (switch .entry)) (now (store .entry)) (now (opens .entry)) held) at choice m .decision)
+        × (now (switch .exit) ≡ deliveredMessage (given (now (switch .entry)) (now (store .entry)) (now (opens .entry)) held) at choice m .switch)
+        × (now (store .exit) ≡ deliveredMessage (given (now (switch .entry)) (now (store .entry)) (now (opens .entry)) held) at choice m .store)
+        × (now (opens .exit) ≡ deliveredMessage (given (now (switch .entry)) (now (store .entry)) (now (opens .entry)) held) at choice m .opens) ⌝ }
 {
     match m {
-        Message::UnstampedWrite(o, x, v) => unstamped_write(s, at, o, x, v),
-        Message::SwitchRead(o, x) => switch_read(s, at, choice, o, x),
-        Message::StampedWrite(r, w) => stamped_write(s, &mut *cells, held, at, r, w),
-        Message::DirectRead(r, number, t, o, x) => direct_read(s, cells, at, r, number, t, o, x),
-        Message::NormalRead(r, o, x) => normal_read(s, cells, at, r, o, x),
-        Message::Completion(x, t) => complete(s, at, x, t),
-        Message::Reply(o, v) => finish(s, &mut *opens, at, o, v),
-        Message::Unknown => decisions::drop_packet(s, at),
+        Message::UnstampedWrite(o, x, v) => unstamped_write(&mut *switch, store, at, o, x, v),
+        Message::SwitchRead(o, x) => switch_read(switch, store, at, choice, o, x),
+        Message::StampedWrite(r, w) => stamped_write(&mut *store, held, at, r, w),
+        Message::DirectRead(r, number, t, o, x) => direct_read(store, at, r, number, t, o, x),
+        Message::NormalRead(r, o, x) => normal_read(store, at, r, o, x),
+        Message::Completion(x, t) => complete(&mut *switch, at, x, t),
+        Message::Reply(o, v) => finish(&mut *opens, at, o, v),
+        Message::Unknown => decisions::drop_packet(at),
     }
 }

@@ -67,11 +67,25 @@ fn read_named(name: &[u8], suffix: &[u8], buf: &mut [u8]) -> usize
     n
 }
 
+// Room for the lines of any input: `printed-short`, crates/runs/proofs/Whole.antt.
+fn output_room() -> [u8; 1048576]
+    ensures { λ r. ⌜ 1048576 ≡ length r ⌝ }
+{
+    [0; 1048576]
+}
+
+// The output of an input goes into the buffer, as far as it has room. How many of its bytes are that output.
+fn print(input: &[u8], out: &mut [u8]) -> usize
+    ensures { λ r. ⌜ Counts r (now (out .exit)) ⌝ }
+{
+    least(runs::print(input, &mut *out), out.len())
+}
+
 // Whether the model prints for the example what is expected.
 fn agrees(name: &[u8], input: &mut [u8], expected: &mut [u8], out: &mut [u8]) -> bool {
     let n = read_named(name, b".records", &mut *input);
     let m = read_named(name, b".lines", &mut *expected);
-    let used = runs::print(&input[..n], &mut *out);
+    let used = print(&input[..n], &mut *out);
     same(&out[..used], &expected[..m])
 }
 
@@ -80,7 +94,7 @@ fn cuts_agree(input: &[u8], expected: &[u8], out: &mut [u8]) -> bool {
     let mut at = 0;
     let mut cut = 0;
     while cut <= input.len() {
-        let used = runs::print(&input[..cut], &mut *out);
+        let used = print(&input[..cut], &mut *out);
         if !stands_at(expected, at, &out[..used]) {
             return false;
         }
@@ -184,8 +198,8 @@ fn try_cuts(input: &mut [u8], expected: &mut [u8], out: &mut [u8]) {
 
 fn main() {
     let mut input = runs::input_room();
-    let mut expected = runs::output_room();
-    let mut out = runs::output_room();
+    let mut expected = output_room();
+    let mut out = output_room();
     let mut names = io::large_buffer();
     let n = read_named(b"index", b"", &mut names);
     try_named(&names[..n], &mut input, &mut expected, &mut out);

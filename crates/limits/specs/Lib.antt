@@ -14,8 +14,8 @@ abbrev pub waiting : ℕ
 waiting = 64
 
 -- at most 64 operations are open
-abbrev pub opened : ℕ
-opened = 64
+abbrev pub openOperations : ℕ
+openOperations = 64
 
 -- all links together hold at most 64 writes
 abbrev pub linked : ℕ
@@ -28,6 +28,10 @@ input = 65536
 -- operations are numbered 1 to 65,535
 abbrev pub lastOperation : ℕ
 lastOperation = 65535
+
+-- switch numbers have 16 bits
+abbrev pub switchNumbers : ℕ
+switchNumbers = 65536
 
 -- counters have 16 bits
 abbrev pub lastCounter : ℕ

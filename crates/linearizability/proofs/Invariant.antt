@@ -1,20 +1,22 @@
--- The invariant of the machine: its history has an order, its chain shows the log, its waiting messages are fine, and its books agree with what happened.
-use mathlib.Core.Path.{_≡_, refl, sym, ap, _∙_, subst}
-use mathlib.Core.Bool.{Bool, true, false}
+-- The invariant of the machine: its history has an order, its store shows the log, its waiting messages are fine, and its books agree with what happened.
+use mathlib.Core.Path.{_≡_, refl, sym, ap, subst}
+use mathlib.Core.Bool.{true}
 use mathlib.Core.List.{List, [], _∷_, _++_}
 use mathlib.Core.Logic.{inl, inr}
-use Prim.Native.Nat.{ℕ, suc, _-_, _≤_, _<_}
+use Prim.Native.Nat.{ℕ, suc, _+_, _-_, _≤_, _<_}
 use native.Mathlib.Nat.{sub-self}
 use native.Mathlib.Omega.{arith}
-use lib.ListN.{length, take}
 use Rattle.history.specs.History.{_∈_, Kind, reads, writes, History, begun, finished, Begun}
 use Rattle.history.proofs.Lists.{in-insert, cases-append, only-member}
 use Rattle.history.proofs.Entries.{Entry, New, Unfinished}
 use Rattle.history.proofs.Growth.{finished-begun}
-use Rattle.operations.specs.{isOpen}
-use Rattle.replicas.specs.declared.Chain.{Chain}
+use Rattle.switch.specs.Numbers.{counterIn, committedIn}
+use Rattle.switch.proofs.Laws.{SizedSwitch}
+use Rattle.operations.specs.{isOpen, lastGiven}
+use Rattle.operations.proofs.Laws.{SizedOpens, OpenOnce}
 use Rattle.replicas.specs.declared.Write.{Write}
-use Rattle.replicas.specs.Chain.{isLive, headOf, tailOf, appliedBy}
+use Rattle.replicas.specs.Store.{appliedBy}
+use Rattle.replicas.specs.Chain.{isLive, headOf, tailOf}
 use Rattle.replicas.specs.Links.{entries}
 use Rattle.waiting.specs.Waiting.{edited}
 use Rattle.waiting.proofs.Laws as waiting
@@ -26,58 +28,73 @@ use Rattle.protocol.specs.declared.Refusal.{Refusal}
 use Rattle.protocol.specs.declared.Step.{Step}
 use Rattle.protocol.specs.declared.Step.the-variants.{Start, BeginRead, BeginWrite, Deliver, Lose, Repeat, Advance, Replace, Tell, Remove, GiveUp}
 use Rattle.protocol.specs.Decisions.{Outcome, keeping, refusing}
-use Rattle.protocol.specs.Steps.{Machine, givenBy}
+use Rattle.protocol.specs.Steps.{Machine, machine, givenBy}
 use Rattle.log.proofs.Shows.{Shows}
 use Rattle.linearizability.specs.Run.{begunCount, noted}
 use Rattle.linearizability.proofs.Visible.{shows}
+use Rattle.linearizability.proofs.Packets.{unstamped}
 use Rattle.linearizability.proofs.Core.{Core}
 use Rattle.linearizability.proofs.Bounds.{UpTo}
 use Rattle.linearizability.proofs.Order.{finishOrder}
 use Rattle.linearizability.proofs.Waits.{messages, edited-nothing}
 
 -- whom a waiting message is for: a stamped write for the present head or for a replica that is gone, a normal read likewise for the tail
-abbrev pub Placed : Chain → Message → Type 0
-Placed c (UnstampedWrite o x v) = Unit {0}
-Placed c (SwitchRead o x) = Unit {0}
-Placed c (StampedWrite r w) = isLive c r ≡ true → r ≡ headOf c
-Placed c (DirectRead r number t o x) = Unit {0}
-Placed c (NormalRead r o x) = isLive c r ≡ true → r ≡ tailOf c
-Placed c (Completion x t) = Unit {0}
-Placed c (Reply o v) = Unit {0}
-Placed c Unknown = Unit {0}
+abbrev pub Placed : List ℕ → Message → Type 0
+Placed s (UnstampedWrite o x v) = Unit {0}
+Placed s (SwitchRead o x) = Unit {0}
+Placed s (StampedWrite r w) = isLive s r ≡ true → r ≡ headOf s
+Placed s (DirectRead r number t o x) = Unit {0}
+Placed s (NormalRead r o x) = isLive s r ≡ true → r ≡ tailOf s
+Placed s (Completion x t) = Unit {0}
+Placed s (Reply o v) = Unit {0}
+Placed s Unknown = Unit {0}
 
 -- the operation is on objects that there are
 abbrev pub InRange : Kind → Type 0
 InRange (reads xs) = (x : ℕ) → x ∈ xs → x < 1024
 InRange (writes x v) = x < 1024
 
+-- no operation finishes twice
+abbrev pub EndsOnce : History → Type 0
+EndsOnce [] = Unit {0}
+EndsOnce (begun o k ∷ h) = EndsOnce h
+EndsOnce (finished o vs ∷ h) = Unfinished h o × EndsOnce h
+
 -- what the machine keeps of the operations agrees with what happened
-pub record Books (opens : List ℕ) (last : ℕ) (h : History) : Type 0 where
-  pub opened : (o : ℕ) → isOpen opens o ≡ true → Unfinished h o
-  pub numbered : last ≡ begunCount h
+pub record Books (opens : List ℕ) (h : History) : Type 0 where
+  pub cells : SizedOpens opens
+  pub open-once : OpenOnce opens
+  -- an open operation was begun, and has not finished
+  pub opened : (o : ℕ) → isOpen opens o ≡ true → Begun h o × Unfinished h o
+  pub numbered : lastGiven opens ≡ begunCount h
+  pub few : lastGiven opens ≤ 65535
   pub bounded : (o : ℕ) → Begun h o → UpTo (begunCount h) o
   pub ranged : (o : ℕ) (k : Kind) → begun o k ∈ h → InRange k
+  pub ends-once : EndsOnce h
 
 -- es is the order; issued are the writes ever stamped, log those that the head has applied, and the tail has applied the first n
 pub record Good (m : Machine) (h : History) (es : List Entry) : Type 0 where
   pub issued : List Write
   pub log : List Write
   pub n : ℕ
-  pub core : Core h es issued log n (messages (m .waiting)) (m .state .switch .committed)
-  pub shown : Shows (m .state .chain) (m .store) log n
-  pub posted : (p : Message) → p ∈ messages (m .waiting) → Placed (m .state .chain) p
-  pub books : Books (m .opens) (m .state .last) h
-  pub list-sized : waiting.Sized (m .waiting)
+  pub core : Core h es issued log n (messages (m .waiting)) (committedIn (m .switch))
+  pub shown : Shows (m .store) log n
+  pub posted : (p : Message) → p ∈ messages (m .waiting) → Placed (m .store) p
+  pub books : Books (m .opens) h
+  -- each stamp that the switch gave and each unstamped write that waits has an operation of its own
+  pub counted : counterIn (m .switch) + unstamped (messages (m .waiting)) ≤ lastGiven (m .opens)
+  pub switch-sized : SizedSwitch (m .switch)
+  pub exact : waiting.Exact (m .waiting)
 
 -- ---- one step
 
 -- the machine after an outcome
 abbrev pub done : Machine → Outcome → Machine
-done m u = record { state = u .decision .state; store = u .store; opens = u .opens; waiting = edited (m .waiting) (u .decision .edit) }
+done m u = machine (u .switch) (u .store) (u .opens) (edited (m .waiting) (u .decision .edit))
 
 -- how many writes the tail has applied
 abbrev pub tailApplied : Machine → ℕ
-tailApplied m = appliedBy (m .state .chain) (tailOf (m .state .chain))
+tailApplied m = appliedBy (m .store) (tailOf (m .store))
 
 -- the writes that a step made visible: those that the tail has applied, or that it need not apply any more
 abbrev pub madeVisible : Machine → Machine → List Write
@@ -119,24 +136,24 @@ noted-refused (Remove a) r h = refl
 noted-refused (GiveUp o) r h = refl
 
 -- a refused step leaves the machine as it was
-pub refused-stays : (m : Machine) (r : Refusal) → done m (keeping (givenBy m) (refusing (m .state) r)) ≡ m
+pub refused-stays : (m : Machine) (r : Refusal) → done m (keeping (givenBy m) (refusing r)) ≡ m
 unfolding refusing
-refused-stays m r = λ i. record { state = m .state; store = m .store; opens = m .opens; waiting = edited-nothing (m .waiting) i }
+refused-stays m r = ap (machine (m .switch) (m .store) (m .opens)) (edited-nothing (m .waiting))
 
-pub good-refused : (x : Step) {m : Machine} {h : History} {es : List Entry} (r : Refusal) → Good m h es → Then x m h es (keeping (givenBy m) (refusing (m .state) r))
+pub good-refused : (x : Step) {m : Machine} {h : History} {es : List Entry} (r : Refusal) → Good m h es → Then x m h es (keeping (givenBy m) (refusing r))
 unfolding refusing
 good-refused x {m} {h} {es} r g =
-    rw (noted-refused x r h, order-stays m (done m (keeping (givenBy m) (refusing (m .state) r))) es refl)
+    rw (noted-refused x r h, order-stays m (done m (keeping (givenBy m) (refusing r))) es refl)
     (subst (λ (k : Machine). Good k h es) (sym (refused-stays m r)) g)
 
 -- ---- parts of the invariant
 
 -- the messages of a list that lost one, and of one that gained one
-pub posted-lost : {c : Chain} (a : List Message) (p : Message) (b : List Message) → ((q : Message) → q ∈ a ++ p ∷ b → Placed c q) → (q : Message) → q ∈ a ++ b → Placed c q
+pub posted-lost : {s : List ℕ} (a : List Message) (p : Message) (b : List Message) → ((q : Message) → q ∈ a ++ p ∷ b → Placed s q) → (q : Message) → q ∈ a ++ b → Placed s q
 posted-lost a p b f q m = f q (in-insert a p b m)
 
-pub posted-add : {c : Chain} (l : List Message) (p : Message) → ((q : Message) → q ∈ l → Placed c q) → Placed c p → (q : Message) → q ∈ l ++ p ∷ [] → Placed c q
-posted-add {c} l p f h q m = elim (cases-append l m) [ inl i ↦ f q i | inr i ↦ subst (Placed c) (sym (only-member i)) h ]
+pub posted-add : {s : List ℕ} (l : List Message) (p : Message) → ((q : Message) → q ∈ l → Placed s q) → Placed s p → (q : Message) → q ∈ l ++ p ∷ [] → Placed s q
+posted-add {s} l p f h q m = elim (cases-append l m) [ inl i ↦ f q i | inr i ↦ subst (Placed s) (sym (only-member i)) h ]
 
 -- the next operation number is new, and not finished
 pub new-number : {m : Machine} {h : History} {es : List Entry} → Good m h es → New h (suc (begunCount h))

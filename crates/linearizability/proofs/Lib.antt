@@ -13,3 +13,5 @@ pub mod Steps
 pub mod OneOrder
 pub mod Listing
 pub mod Limits
+pub mod Opens
+pub mod Runs

@@ -10,14 +10,15 @@ use Rattle.protocol.specs.declared.Step.{Step}
 use Rattle.protocol.specs.declared.Step.the-variants.{BeginRead, BeginWrite, Deliver, Advance, Remove, GiveUp}
 use Rattle.protocol.specs.Messages.{packetOf, messageOf, isUnstamped}
 use Rattle.protocol.specs.Decisions.{refusing, dropping, passing, overfull}
-use Rattle.protocol.specs.Delivery.{unstampedWrite, switchRead, stampedWrite, directRead, normalRead, completion, reply, deliveredMessage}
-use Rattle.protocol.specs.Steps.{startState, asking, begun as beginStep, delivered, advancing, removing, givenUp, positionOf, decided, answerTo, after, started}
+use Rattle.protocol.specs.Delivery.{stamping, unstampedWrite, switchRead, stampedWrite, directRead, normalRead, completion, reply, deliveredMessage}
+use Rattle.protocol.specs.Steps.{asking, beginOperation, delivered, advancing, removing, givingUp, positionOf, decided, isMalformed, decidedIn, answerTo, after, started}
 use Rattle.waiting.specs.declared.Packet.{Packet}
-use Rattle.waiting.specs.Waiting.{blank, placesIn, heldIn, waits, noneWait, lookAt, takenOut, putLast, added, afterTaking, edited}
-use Rattle.lists.specs.{moves, without, indexOf}
-use Rattle.operations.specs.{noneOpen, isOpen, hasRoom, opening, kept, closing}
+use Rattle.waiting.specs.Waiting.{blank, heldIn, noneWait, lookAt, takesOut, leftBy, fits, afterTaking, adding, edited}
+use Rattle.lists.specs.{moves, indexOf, listOf}
+use Rattle.operations.specs.{openCount, openNumbers, lastGiven, noneOpen, openPlace, isOpen, roomToOpen, opening, closing}
 use Rattle.stamp.specs.Stamps.{stampOf, numberOf, counterOf, isAbove, largerOf}
-use Rattle.switch.specs.DirtySet.{firstSlot, secondSlot, thirdSlot, holdsObject, countsAbove, isFree, holdsAbove, freeSlot, slotFor, markAbove, lookedUp, marking, marked, isCompleted, clearedAt, completed, newSwitch}
+use Rattle.switch.specs.Numbers.{numberIn, counterIn, committedIn, directIn, slotObject, slotStamp}
+use Rattle.switch.specs.DirtySet.{firstSlot, secondSlot, thirdSlot, holdsObject, countsAbove, isFree, holdsAbove, freeSlot, slotFor, markAbove, lookedUp, nextStamp, marking, canMark, marked, stampFor, isCompleted, clearedAt, completed, newSwitch}
 use Rattle.replicas.specs.Chain
 use Rattle.replicas.specs.Store
 use Rattle.replicas.specs.Links
@@ -57,7 +58,7 @@ pub record Computed : Type 0 where
   pub overtaken-order : orderOf 2 row overtaking-run ≡ 2 ∷ 1 ∷ []
 
 pub computed : Computed
-unfolding packetOf messageOf isUnstamped refusing dropping passing overfull unstampedWrite switchRead stampedWrite directRead normalRead completion reply deliveredMessage startState asking beginStep delivered advancing removing givenUp positionOf decided answerTo after started waits placesIn heldIn noneWait lookAt takenOut putLast added afterTaking edited moves without indexOf noneOpen isOpen hasRoom opening kept closing stampOf numberOf counterOf isAbove largerOf firstSlot secondSlot thirdSlot holdsObject countsAbove isFree holdsAbove freeSlot slotFor markAbove lookedUp marking marked isCompleted clearedAt completed newSwitch Chain.members Chain.liveCount Chain.placeOf Chain.isLive Chain.memberAt Chain.headOf Chain.tailOf Chain.chosenBy Chain.rowOf Chain.highestOf Chain.permittedBy Chain.appliedBy Chain.allOf Chain.permits Chain.allPermit Chain.removed Chain.newChain Links.entries has objectsOf finishOrder Store.cells Store.valueCell Store.stampCell Store.entryCell Store.emptyStore Store.valueAt Store.stampAt Store.entryAt Store.written Store.logged Replicas.linkedWrites Replicas.accepts Replicas.applying Replicas.received Replicas.pending Replicas.oldest Replicas.advanced Replicas.answersDirect
+unfolding packetOf messageOf isUnstamped refusing dropping passing overfull stamping unstampedWrite switchRead stampedWrite directRead normalRead completion reply deliveredMessage asking beginOperation delivered advancing removing givingUp positionOf decided isMalformed decidedIn answerTo after started heldIn noneWait lookAt takesOut leftBy fits afterTaking adding edited moves indexOf listOf openCount openNumbers lastGiven noneOpen openPlace isOpen roomToOpen opening closing stampOf numberOf counterOf isAbove largerOf numberIn counterIn committedIn directIn slotObject slotStamp firstSlot secondSlot thirdSlot holdsObject countsAbove isFree holdsAbove freeSlot slotFor markAbove lookedUp nextStamp marking canMark marked stampFor isCompleted clearedAt completed newSwitch Chain.chainPlace Chain.isLive Chain.memberAt Chain.headOf Chain.tailOf Chain.chosenBy Chain.allOf Chain.permits Chain.allPermit Chain.removed Chain.emptyCells Chain.numbered Chain.emptyStore Links.entries has objectsOf finishOrder Store.entryCell Store.valueCell Store.stampCell Store.storeCells Store.liveCount Store.orderAt Store.members Store.rowOf Store.highestOf Store.permittedBy Store.appliedBy Store.entryAt Store.valueAt Store.stampAt Store.logged Store.tabled Store.raised Replicas.linkedWrites Replicas.accepts Replicas.nextPosition Replicas.applying Replicas.taking Replicas.pendingAt Replicas.pending Replicas.oldest Replicas.answersDirect
 computed = record { listing-history = refl; listing-order = refl; tail-removed = refl; tail-removed-order = refl; head-removed = refl; overtaken-order = refl }
 
 -- a machine that drops every packet finishes nothing: the listing's history is not its history

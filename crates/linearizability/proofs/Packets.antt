@@ -2,10 +2,10 @@
 use mathlib.Core.Path.{_≡_, refl, sym, ap, _∙_, subst}
 use mathlib.Core.Logic.{_⊎_, inl, inr, _≢_}
 use mathlib.Core.List.{List, [], _∷_, _++_}
-use Prim.Native.Nat.{ℕ, _≤_}
+use Prim.Native.Nat.{ℕ, _+_, _≤_}
 use native.Mathlib.Omega.{arith}
 use Rattle.history.specs.History.{_∈_, reads, writes, Event, History, begun, Begun}
-use Rattle.history.proofs.Lists.{here, there, no-member, only-member, cases-append, in-left, in-right, in-insert, Pairwise, pairwise-snoc, pairwise-remove, pairwise-at}
+use Rattle.history.proofs.Lists.{here, there, no-member, only-member, cases-cons, cases-append, in-left, in-right, in-insert, Pairwise, pairwise-snoc, pairwise-remove, pairwise-at}
 use Rattle.history.proofs.Entries.{Entry, InOrder}
 use Rattle.history.proofs.Growth.{begun-at}
 use Rattle.history.proofs.Readable.{Readable}
@@ -156,3 +156,49 @@ packets-stamp {h} {es} {issued} {t} a b w r p = packets-add (a ++ b) (StampedWri
 
     longer : Grows h es issued t h es (issued ++ w ∷ []) t
     longer = record { events = λ e i. i; entries = λ e i. i; issues = λ u i. in-left (w ∷ []) i; tops = omega arith; reading = λ o xs vs n d. d }
+
+-- ---- how many unstamped writes wait
+
+-- 1 for an unstamped write, 0 for every other message
+abbrev pub unstampedOne : Message → ℕ
+unstampedOne (UnstampedWrite o x v) = 1
+unstampedOne (SwitchRead o x) = 0
+unstampedOne (StampedWrite r w) = 0
+unstampedOne (DirectRead r number t o x) = 0
+unstampedOne (NormalRead r o x) = 0
+unstampedOne (Completion x t) = 0
+unstampedOne (Reply o v) = 0
+unstampedOne Unknown = 0
+
+-- how many unstamped writes a list of messages has
+abbrev pub unstamped : List Message → ℕ
+unstamped [] = 0
+unstamped (p ∷ l) = unstampedOne p + unstamped l
+
+-- two lists hold as many as both together
+pub unstamped-append : (l r : List Message) → unstamped (l ++ r) ≡ unstamped l + unstamped r
+unstamped-append [] r = omega arith
+unstamped-append (p ∷ l) r = omega (arith, unstamped-append l r)
+
+-- one message less
+pub unstamped-lost : (a : List Message) (p : Message) (b : List Message) → unstamped (a ++ p ∷ b) ≡ unstampedOne p + unstamped (a ++ b)
+unstamped-lost a p b = omega (arith, unstamped-append a (p ∷ b), unstamped-append a b)
+
+-- one that waits is counted
+pub unstamped-in : (l : List Message) {p : Message} → p ∈ l → unstampedOne p ≤ unstamped l
+unstamped-in [] i = absurd (no-member i)
+unstamped-in (q ∷ l) i = elim (cases-cons i) [
+  | inl e ↦ omega (arith, ap unstampedOne e)
+  | inr j ↦ omega (arith, unstamped-in l j)
+]
+
+-- a message that asks for no stamp is no unstamped write
+pub asks-none : (p : Message) → ((o : ℕ) → Asks p o → ⊥) → unstampedOne p ≡ 0
+asks-none (UnstampedWrite o x v) n = absurd (n o refl)
+asks-none (SwitchRead o x) n = refl
+asks-none (StampedWrite r w) n = refl
+asks-none (DirectRead r number t o x) n = refl
+asks-none (NormalRead r o x) n = refl
+asks-none (Completion x t) n = refl
+asks-none (Reply o v) n = refl
+asks-none Unknown n = refl

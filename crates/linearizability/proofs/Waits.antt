@@ -4,15 +4,15 @@ use mathlib.Core.Bool.{true, false}
 use mathlib.Core.List.{List, [], _∷_, _++_, map, append-nil}
 use Prim.Native.Nat.{ℕ, zero, suc, _+_, _-_, _≤_, _<_}
 use native.Mathlib.Omega.{arith}
-use lib.ListN.{length, take, drop, getD, length-append, length-map, List·getD-map}
+use lib.ListN.{length, take, drop, length-map, List·getD-map}
 use lib.Seq.{split-at}
 use borrow.Author.Tests.{ltb-false}
+use Rattle.limits.specs as limits
 use Rattle.lists.specs.{without}
-use Rattle.lists.proofs.Closing.{length-without}
 use Rattle.waiting.specs.declared.Packet.{Packet}
 use Rattle.waiting.specs.declared.Edit.{Edit}
-use Rattle.waiting.specs.Waiting.{WaitingList, blank, waits, held, lookAt, added, afterTaking, edited}
-use Rattle.waiting.proofs.Laws.{Sized, places-sized, length-waits, look-is, waits-edited-taking, waits-edited-keeping}
+use Rattle.waiting.specs.Waiting.{WaitingList, blank, waits, held, lookAt, added, edited}
+use Rattle.waiting.proofs.Laws.{Roomy, Exact, held-most, length-waits, look-is, edited-none, waits-edited-taking, waits-edited-keeping}
 use Rattle.protocol.specs.declared.Message.{Message}
 use Rattle.protocol.specs.declared.Message.the-variants.{UnstampedWrite, SwitchRead, StampedWrite, DirectRead, NormalRead, Completion, Reply, Unknown}
 use Rattle.protocol.specs.Messages.{packetOf, messageOf}
@@ -60,61 +60,71 @@ module _ {A B : Type 0} (f : A → B) where
   unfolding without
   map-without l i = map-append (take i l) (drop (suc i) l) ∙ rw (map-take i l, map-drop (suc i) l)
 
-pub length-messages : (w : WaitingList) → length (messages w) ≡ held w
-length-messages w = length-map (waits w) messageOf ∙ length-waits w
+pub length-messages : (w : WaitingList) → Roomy w → length (messages w) ≡ held w
+length-messages w r = length-map (waits w) messageOf ∙ length-waits w r
+
+-- a message stands at a position of a list that has its 64 places
+pub record Stands (w : WaitingList) (at : ℕ) (p : Message) : Type 0 where
+  pub roomy : Roomy w
+  pub inside : at < held w
+  pub split : messages w ≡ front at w ++ p ∷ back at w
 
 -- the message at a position
-pub at-position : (w : WaitingList) (at : ℕ) → at < held w → messages w ≡ front at w ++ messageOf (lookAt w at) ∷ back at w
-at-position w at h =
-    split-at (messages w) at (messageOf blank) (omega (arith, length-messages w)) ∙
-    ap (λ (m : Message). front at w ++ m ∷ back at w) (List·getD-map messageOf (waits w) at blank ∙ ap messageOf (sym (look-is w at)))
+pub at-position : (w : WaitingList) (at : ℕ) → Roomy w → at < held w → Stands w at (messageOf (lookAt (w .packets) at))
+at-position w at r h = record {
+  roomy = r;
+  inside = h;
+  split = split-at (messages w) at (messageOf blank) (omega (arith, length-messages w r)) ∙
+      ap (λ (m : Message). front at w ++ m ∷ back at w) (List·getD-map messageOf (waits w) at blank ∙ ap messageOf (sym (look-is w at h)));
+}
 
 -- ---- edits
 
 pub edited-nothing : (w : WaitingList) → edited w noEdit ≡ w
-unfolding edited afterTaking
-edited-nothing w = refl
+edited-nothing w = edited-none w noEdit refl refl
 
-taking : (w : WaitingList) (e : Edit) → Sized w → e .take ≡ true → e .at < held w → held w + length (added e) ≤ 65
+taking : (w : WaitingList) (e : Edit) → Roomy w → e .take ≡ true → e .at < held w → e .add ≤ 2 → held w - 1 + e .add ≤ limits.waiting
     → messages (edited w e) ≡ (front (e .at) w ++ back (e .at) w) ++ map messageOf (added e)
-taking w e s t h k =
-    ap (map messageOf) (waits-edited-taking w e t h (rw length-append (omega (arith, places-sized w s, length-without (waits w) (e .at) (omega (arith, length-waits w)), length-waits w))))
+taking w e r t h most k =
+    ap (map messageOf) (waits-edited-taking w e r t h most k)
     ∙ map-append messageOf (without (waits w) (e .at)) (added e)
     ∙ ap (λ (l : List Message). l ++ map messageOf (added e)) (map-without messageOf (waits w) (e .at))
 
-keeping : (w : WaitingList) (e : Edit) → Sized w → e .take ≡ false → held w + length (added e) ≤ 64 → messages (edited w e) ≡ messages w ++ map messageOf (added e)
-keeping w e s t k =
-    ap (map messageOf) (waits-edited-keeping w e t (rw length-append (omega (arith, places-sized w s, length-waits w)))) ∙ map-append messageOf (waits w) (added e)
+keeping : (w : WaitingList) (e : Edit) → Roomy w → Exact w → e .take ≡ false → e .add ≤ 2 → held w + e .add ≤ limits.waiting
+    → messages (edited w e) ≡ messages w ++ map messageOf (added e)
+keeping w e r x t most k = ap (map messageOf) (waits-edited-keeping w e r x t most k) ∙ map-append messageOf (waits w) (added e)
 
 -- what the test of the list's limit leaves
-pub room : (w : WaitingList) (out add : ℕ) → overfull (held w) out add ≡ false → held w ≤ 64 + out - add
+pub room : (w : WaitingList) (out add : ℕ) → overfull (held w) out add ≡ false → held w - out + add ≤ limits.waiting
 unfolding overfull
-room w out add e = ltb-false (64 + out - add) (held w) e
+room w out add e = ltb-false limits.waiting (held w - out + add) e
 
-module _ (w : WaitingList) (s : Sized w) (at : ℕ) (h : at < held w) (most : held w ≤ 64) where
+module _ (w : WaitingList) {at : ℕ} {p : Message} (i : Stands w at p) where
   pub taken-out : messages (edited w (takeOut at)) ≡ front at w ++ back at w
   unfolding added
-  taken-out = taking w (takeOut at) s refl h (omega arith) ∙ append-nil (front at w ++ back at w)
+  taken-out = taking w (takeOut at) (i .roomy) refl (i .inside) (omega arith) (omega (arith, held-most w)) ∙ append-nil (front at w ++ back at w)
 
   pub taken-out-add : (m : Message) → messages (edited w (takeOutAdd at (packetOf m))) ≡ (front at w ++ back at w) ++ m ∷ []
   unfolding added
   taken-out-add m =
-      taking w (takeOutAdd at (packetOf m)) s refl h (omega arith) ∙ ap (λ (q : Message). (front at w ++ back at w) ++ q ∷ []) (message-packet m)
+      taking w (takeOutAdd at (packetOf m)) (i .roomy) refl (i .inside) (omega arith) (omega (arith, held-most w, i .inside)) ∙
+      ap (λ (q : Message). (front at w ++ back at w) ++ q ∷ []) (message-packet m)
 
-  pub taken-out-add-two : (m q : Message) → overfull (held w) 1 2 ≡ false → messages (edited w (takeOutAddTwo at (packetOf m) (packetOf q))) ≡ (front at w ++ back at w) ++ m ∷ q ∷ []
+  pub taken-out-add-two : (m q : Message) → overfull (held w) 1 2 ≡ false
+      → messages (edited w (takeOutAddTwo at (packetOf m) (packetOf q))) ≡ (front at w ++ back at w) ++ m ∷ q ∷ []
   unfolding added
   taken-out-add-two m q e =
-      taking w (takeOutAddTwo at (packetOf m) (packetOf q)) s refl h (omega (arith, room w 1 2 e)) ∙ rw (message-packet m, message-packet q)
+      taking w (takeOutAddTwo at (packetOf m) (packetOf q)) (i .roomy) refl (i .inside) (omega arith) (room w 1 2 e) ∙ rw (message-packet m, message-packet q)
 
-module _ (w : WaitingList) (s : Sized w) where
+module _ (w : WaitingList) (r : Roomy w) (x : Exact w) where
   -- any packet comes to the end
   pub added-packet : (p : Packet) → overfull (held w) 0 1 ≡ false → messages (edited w (addOne p)) ≡ messages w ++ messageOf p ∷ []
   unfolding added
-  added-packet p e = keeping w (addOne p) s refl (omega (arith, room w 0 1 e))
+  added-packet p e = keeping w (addOne p) r x refl (omega arith) (omega (arith, room w 0 1 e))
 
   pub added-one : (m : Message) → overfull (held w) 0 1 ≡ false → messages (edited w (addOne (packetOf m))) ≡ messages w ++ m ∷ []
   added-one m e = added-packet (packetOf m) e ∙ ap (λ (q : Message). messages w ++ q ∷ []) (message-packet m)
 
   pub added-two : (m q : Message) → overfull (held w) 0 2 ≡ false → messages (edited w (addTwo (packetOf m) (packetOf q))) ≡ messages w ++ m ∷ q ∷ []
   unfolding added
-  added-two m q e = keeping w (addTwo (packetOf m) (packetOf q)) s refl (omega (arith, room w 0 2 e)) ∙ rw (message-packet m, message-packet q)
+  added-two m q e = keeping w (addTwo (packetOf m) (packetOf q)) r x refl (omega arith) (omega (arith, room w 0 2 e)) ∙ rw (message-packet m, message-packet q)

@@ -1,6 +1,7 @@
 -- The run that demand 3 speaks of: what happened in it, 'read from the steps and their answers, never from the model's own record'.
 use mathlib.Core.List.{List, [], _∷_}
 use Prim.Native.Nat.{ℕ, suc}
+use Rattle.lists.specs.{indexOf, without}
 use Rattle.history.specs.History.{Kind, reads, writes, History, begun, finished}
 use Rattle.waiting.specs.declared.Packet.{Packet}
 use Rattle.protocol.specs.declared.Answer.{Answer}
@@ -49,3 +50,49 @@ historyFrom m h (x ∷ xs) = historyFrom (after m x) (noted x (answerTo m x) h) 
 -- what happened in the run of these steps from an empty store of n replicas, whatever the lent places for packets hold
 abbrev pub historyOf : ℕ → List Packet → List Step → History
 historyOf n row xs = historyFrom (started n row) [] xs
+
+-- ---- the open operations, of which there are at most 64 (refusal 5, 'OpenFull'): begun, not finished and not given up, the newest first
+
+-- an accepted begin opens the operation that it starts
+abbrev pub openBegun : Answer → History → List ℕ → List ℕ
+openBegun Done h l = suc (begunCount h) ∷ l
+openBegun (Finished o v) h l = suc (begunCount h) ∷ l
+openBegun (Refused r) h l = l
+
+-- the operation is open no more
+abbrev pub openWithout : ℕ → List ℕ → List ℕ
+openWithout o l = without l (indexOf l o)
+
+-- the operation that an answer names as just finished is open no more
+abbrev pub openEnded : Answer → List ℕ → List ℕ
+openEnded Done l = l
+openEnded (Finished o v) l = openWithout o l
+openEnded (Refused r) l = l
+
+-- nor is one that is given up, unless the step is refused
+abbrev pub openGivenUp : ℕ → Answer → List ℕ → List ℕ
+openGivenUp o Done l = openWithout o l
+openGivenUp o (Finished p v) l = openWithout o l
+openGivenUp o (Refused r) l = l
+
+-- the open operations, one step later; h is the history before the step
+abbrev pub openNoted : Step → Answer → History → List ℕ → List ℕ
+openNoted (Start n) a h l = l
+openNoted (BeginRead x) a h l = openBegun a h l
+openNoted (BeginWrite x v) a h l = openBegun a h l
+openNoted (Deliver at choice) a h l = openEnded a l
+openNoted (Lose at) a h l = l
+openNoted (Repeat at) a h l = l
+openNoted (Advance r) a h l = l
+openNoted (Replace number) a h l = l
+openNoted (Tell r) a h l = l
+openNoted (Remove r) a h l = l
+openNoted (GiveUp o) a h l = openGivenUp o a l
+
+abbrev pub openFrom : Machine → History → List ℕ → List Step → List ℕ
+openFrom m h l [] = l
+openFrom m h l (x ∷ xs) = openFrom (after m x) (noted x (answerTo m x) h) (openNoted x (answerTo m x) h l) xs
+
+-- the operations that are open after the run of these steps from an empty store of n replicas
+abbrev pub openOf : ℕ → List Packet → List Step → List ℕ
+openOf n row xs = openFrom (started n row) [] [] xs

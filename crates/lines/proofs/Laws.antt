@@ -11,8 +11,8 @@ use Rattle.protocol.specs.declared.Answer.{Answer}
 use Rattle.protocol.specs.declared.Answer.the-variants.{Done, Finished, Refused}
 use Rattle.protocol.specs.declared.Refusal.the-variants.{NotOpen}
 use Rattle.protocol.specs.Answers.{refusalNumber}
-use Rattle.lines.specs.Lines.{digits, places, decimal, noLine, lineOf}
-use Rattle.lines.proofs.Numbers.{decimal-length}
+use Rattle.lines.specs.Lines.{digits, places, decimal, okStart, finishEnd, noFinish, noLine, lineOf}
+use Rattle.lines.proofs.Numbers.{decimal-places, decimal-length}
 
 -- there is a byte 10, and the first one is the last byte
 abbrev pub isLine : List ℕ → Bool
@@ -38,6 +38,36 @@ unfolding lineOf
 answer-line k Done w m = simp (append-assoc, number-line)
 answer-line k (Finished o v) w m = simp (append-assoc, number-line)
 answer-line k (Refused r) w m = refusal-line k (refusalNumber r)
+
+-- how long each part is, by its numbers
+pub ok-parts : (k w m : ℕ) → length (okStart k w m) ≡ length (decimal k) + 4 + length (decimal w) + 1 + length (decimal m) + 1
+ok-parts k w m = simp length-append (omega arith)
+
+pub finish-parts : (o v : ℕ) → length (finishEnd o v) ≡ length (decimal o) + 1 + length (decimal v) + 1
+finish-parts o v = simp length-append (omega arith)
+
+pub no-parts : (k r : ℕ) → length (noLine k r) ≡ length (decimal k) + 4 + length (decimal r) + 1
+unfolding noLine
+no-parts k r = simp length-append (omega arith)
+
+-- and by its digits
+pub ok-length : (k w m : ℕ) → length (okStart k w m) ≡ places k + places w + places m + 6
+ok-length k w m = simp length-append (omega (arith, decimal-places k, decimal-places w, decimal-places m))
+
+pub finish-length : (o v : ℕ) → length (finishEnd o v) ≡ places o + places v + 2
+finish-length o v = simp length-append (omega (arith, decimal-places o, decimal-places v))
+
+pub no-length : (k r : ℕ) → length (noLine k r) ≡ places k + places r + 5
+unfolding noLine
+no-length k r = simp length-append (omega (arith, decimal-places k, decimal-places r))
+
+pub done-length : (k w m : ℕ) → length (lineOf k Done w m) ≡ length (okStart k w m) + 4
+unfolding lineOf
+done-length k w m = length-append (okStart k w m) noFinish
+
+pub finished-length : (k o v w m : ℕ) → length (lineOf k (Finished o v) w m) ≡ length (okStart k w m) + length (finishEnd o v)
+unfolding lineOf
+finished-length k o v w m = length-append (okStart k w m) (finishEnd o v)
 
 pub refusal-length : (k refusal : ℕ) → length (noLine k refusal) ≤ 58
 unfolding noLine

@@ -47,6 +47,10 @@ unfolding digits
 digits-length zero n = refl
 digits-length (suc k) n = simp (length-append, digits-length k (n / 10)) (omega arith)
 
+pub decimal-places : (n : ℕ) → length (decimal n) ≡ places n
+unfolding decimal
+decimal-places n = digits-length (places n) n
+
 pub decimal-length : (n : ℕ) → length (decimal n) ≤ 10
 unfolding decimal
 decimal-length n = omega (arith, digits-length (places n) n, places-sized n)

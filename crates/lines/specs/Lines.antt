@@ -29,12 +29,19 @@ decimal n = digits (places n) n
 abbrev pub okStart : ℕ → ℕ → ℕ → List ℕ
 okStart k waiting marks = decimal k ++ (32 ∷ 111 ∷ 107 ∷ 32 ∷ []) ++ decimal waiting ++ (32 ∷ []) ++ decimal marks ++ (32 ∷ [])
 
+-- the end of such a line: an operation and its value, or none
+abbrev pub finishEnd : ℕ → ℕ → List ℕ
+finishEnd o v = decimal o ++ (32 ∷ []) ++ decimal v ++ (10 ∷ [])
+
+abbrev pub noFinish : List ℕ
+noFinish = 45 ∷ 32 ∷ 45 ∷ 10 ∷ []
+
 -- 'A refusal is number, `no`, refusal.'
 unfoldable pub noLine : ℕ → ℕ → List ℕ
 noLine k refusal = decimal k ++ (32 ∷ 110 ∷ 111 ∷ 32 ∷ []) ++ decimal refusal ++ (10 ∷ [])
 
 -- the line of record k, from its answer and from what the machine then holds
 unfoldable pub lineOf : ℕ → Answer → ℕ → ℕ → List ℕ
-lineOf k Done waiting marks = okStart k waiting marks ++ (45 ∷ 32 ∷ 45 ∷ 10 ∷ [])
-lineOf k (Finished o v) waiting marks = okStart k waiting marks ++ decimal o ++ (32 ∷ []) ++ decimal v ++ (10 ∷ [])
+lineOf k Done waiting marks = okStart k waiting marks ++ noFinish
+lineOf k (Finished o v) waiting marks = okStart k waiting marks ++ finishEnd o v
 lineOf k (Refused r) waiting marks = noLine k (refusalNumber r)

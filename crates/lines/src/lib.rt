@@ -1,63 +1,65 @@
-// Document 01, 'What the run program prints': the bytes of one line.
+// Document 01, 'What the run program prints': the bytes of one line, put into a lent buffer.
 ghost use mathlib.Core.Path.{_≡_};
-ghost use mathlib.Core.List.{[]};
+ghost use mathlib.Core.List.{[], _∷_};
 ghost use Prim.Native.Nat.{_+_, _≤_};
 ghost use lib.ListN.{length};
-ghost use lib.Seq.{paste};
 ghost use Rattle.protocol.specs.Answers.{refusalNumber};
-ghost use Rattle.lines.specs.Lines.{places, decimal, okStart, noLine, lineOf};
-ghost use Rattle.lines.specs.Text.{text, Adds, written, putIn, placeAfter};
+ghost use lib.Dec.{leb};
+ghost use Rattle.protocol.specs.declared.Answer.the-variants.{Done, Finished};
+ghost use Rattle.lines.specs.Lines.{places, decimal, okStart, finishEnd, noLine, lineOf};
+ghost use Rattle.lines.specs.Text.{putIn, Puts};
 use protocol::Answer;
 use protocol::Refusal;
 
-// A line's bytes are the first len of its array, and the bytes past them are free. No line has more than 58.
-pub struct Line {
-    pub bytes: [u8; 64],
-    pub len: usize,
-}
+// No line has more bytes.
+pub const LONGEST: usize = 58;
 
-// How many bytes were written, or that the lent buffer is too short: refusal 15.
-pub enum Written {
-    Bytes(usize),
-    TooShort,
-}
-
-// The bytes go into the buffer at a place, and no other byte changes.
-fn copy_in(buf: &mut [u8], at: usize, from: &[u8])
-    requires { ⌜ at + length (now from) ≤ length (now buf) ⌝ }
-    ensures { λ _. ⌜ now (buf .exit) ≡ paste (now (buf .entry)) at (now (from .entry)) (length (now (from .entry))) ⌝ }
+// The number that document 01 gives a refusal.
+pub fn refusal_number(r: Refusal) -> u8
+    ensures { λ x. ⌜ x ≡ refusalNumber r ⌝ }
 {
-    let mut j = 0;
-    while j < from.len() {
-        buf[at + j] = from[j];
-        j += 1;
+    match r {
+        Refusal::Format => 1,
+        Refusal::Replicas => 2,
+        Refusal::ObjectNumber => 3,
+        Refusal::OperationsUsedUp => 4,
+        Refusal::OpenFull => 5,
+        Refusal::WaitingFull => 6,
+        Refusal::NoPacket => 7,
+        Refusal::UnstampedRepeat => 8,
+        Refusal::NotLive => 9,
+        Refusal::NoLinkedWrite => 10,
+        Refusal::SwitchNumber => 11,
+        Refusal::LastReplica => 12,
+        Refusal::NotOpen => 13,
+        Refusal::InputTooLong => 14,
+        Refusal::BufferTooShort => 15,
     }
 }
 
-// A line of no bytes.
-pub fn empty() -> Line
-    ensures { λ r. ⌜ (text r ≡ []) × (r .len ≡ 0) ⌝ }
+// ---- parts of a line, at a place that has room for them; each function gives the place after what it puts
+
+fn put_byte(out: &mut [u8], at: usize, a: u8) -> usize
+    requires { ⌜ at + 1 ≤ length (now out) ⌝ }
+    ensures { λ r. ⌜ Puts (now (out .entry)) at (a ∷ []) r (now (out .exit)) ⌝ }
 {
-    Line {
-        bytes: [0; 64],
-        len: 0,
-    }
+    out[at] = a;
+    at + 1
 }
 
-// The line with bytes after it.
-fn with_bytes(line: Line, word: &[u8]) -> Line
-    requires { ⌜ line .len + length (now word) ≤ 64 ⌝ }
-    ensures { λ r. ⌜ Adds line (now (word .entry)) (length (now (word .entry))) r ⌝ }
+fn put_four(out: &mut [u8], at: usize, a: u8, b: u8, c: u8, d: u8) -> usize
+    requires { ⌜ at + 4 ≤ length (now out) ⌝ }
+    ensures { λ r. ⌜ Puts (now (out .entry)) at (a ∷ b ∷ c ∷ d ∷ []) r (now (out .exit)) ⌝ }
 {
-    let at = line.len;
-    let n = word.len();
-    let mut bytes = line.bytes;
-    copy_in(&mut bytes, at, word);
-    Line { bytes, len: at + n }
+    out[at] = a;
+    out[at + 1] = b;
+    out[at + 2] = c;
+    out[at + 3] = d;
+    at + 4
 }
 
-// How many decimal digits a number has, at most 10.
-fn places_of(n: usize) -> usize
+// How many decimal digits a number has.
+fn digits_of(n: u32) -> usize
     ensures { λ r. ⌜ (r ≡ places n) × (r ≤ 10) ⌝ }
 {
     if n < 10 {
@@ -90,118 +92,175 @@ fn places_of(n: usize) -> usize
     10
 }
 
-// The line with a number after it. The digits are filled in from the last to the first; of more than ten, the last ten.
-fn with_number(line: Line, n: usize) -> Line
-    requires { ⌜ line .len + 10 ≤ 64 ⌝ }
-    ensures { λ r. ⌜ Adds line (decimal n) 10 r ⌝ }
+// The digits are filled in from the last to the first.
+fn put_number(out: &mut [u8], at: usize, n: u32) -> usize
+    requires { ⌜ at + length (decimal n) ≤ length (now out) ⌝ }
+    ensures { λ r. ⌜ Puts (now (out .entry)) at (decimal n) r (now (out .exit)) ⌝ }
 {
-    let at = line.len;
-    let k = places_of(n);
-    let mut bytes = line.bytes;
+    let k = digits_of(n);
     let mut rest = n;
     let mut left = k;
     while 0 < left {
         left -= 1;
-        bytes[at + left] = 48 + (rest % 10) as u8;
+        out[at + left] = 48 + (rest % 10) as u8;
         rest = rest / 10;
     }
-    Line { bytes, len: at + k }
-}
-
-// The number that document 01 gives a refusal.
-pub fn refusal_number(r: Refusal) -> u8
-    ensures { λ x. ⌜ x ≡ refusalNumber r ⌝ }
-{
-    match r {
-        Refusal::Format => 1,
-        Refusal::Replicas => 2,
-        Refusal::ObjectNumber => 3,
-        Refusal::OperationsUsedUp => 4,
-        Refusal::OpenFull => 5,
-        Refusal::WaitingFull => 6,
-        Refusal::NoPacket => 7,
-        Refusal::UnstampedRepeat => 8,
-        Refusal::NotLive => 9,
-        Refusal::NoLinkedWrite => 10,
-        Refusal::SwitchNumber => 11,
-        Refusal::LastReplica => 12,
-        Refusal::NotOpen => 13,
-        Refusal::InputTooLong => 14,
-        Refusal::BufferTooShort => 15,
-    }
+    at + k
 }
 
 // A line up to the operation just finished: record number, `ok`, packets waiting and counting marks.
-fn ok_start(number: u32, waiting: usize, marks: usize) -> Line
-    ensures { λ r. ⌜ (text r ≡ okStart number waiting marks) × (r .len ≤ 36) ⌝ }
+fn put_ok(out: &mut [u8], at: usize, number: u32, waiting: u32, marks: u32) -> usize
+    requires { ⌜ at + length (okStart number waiting marks) ≤ length (now out) ⌝ }
+    ensures { λ r. ⌜ Puts (now (out .entry)) at (okStart number waiting marks) r (now (out .exit)) ⌝ }
 {
-    let line = with_number(empty(), number as usize);
-    let line = with_bytes(line, b" ok ");
-    let line = with_number(line, waiting);
-    let line = with_bytes(line, b" ");
-    let line = with_number(line, marks);
-    with_bytes(line, b" ")
+    let at = put_number(&mut *out, at, number);
+    let at = put_four(&mut *out, at, 32, 111, 107, 32);
+    let at = put_number(&mut *out, at, waiting);
+    let at = put_byte(&mut *out, at, 32);
+    let at = put_number(&mut *out, at, marks);
+    put_byte(&mut *out, at, 32)
 }
 
 // The line of a refused record: its number, `no` and the refusal.
-pub fn of_refusal(number: u32, refusal: u8) -> Line
-    ensures { λ r. ⌜ text r ≡ noLine number refusal ⌝ }
+fn put_no(out: &mut [u8], at: usize, number: u32, refusal: u8) -> usize
+    requires { ⌜ at + length (noLine number refusal) ≤ length (now out) ⌝ }
+    ensures { λ r. ⌜ Puts (now (out .entry)) at (noLine number refusal) r (now (out .exit)) ⌝ }
 {
-    let line = with_number(empty(), number as usize);
-    let line = with_bytes(line, b" no ");
-    let line = with_number(line, refusal as usize);
-    with_bytes(line, b"\n")
+    let at = put_number(&mut *out, at, number);
+    let at = put_four(&mut *out, at, 32, 110, 111, 32);
+    let at = put_number(&mut *out, at, refusal as u32);
+    put_byte(&mut *out, at, 10)
+}
+
+// The operation just finished and its value.
+fn put_finish(out: &mut [u8], at: usize, operation: u32, value: u32) -> usize
+    requires { ⌜ at + length (finishEnd operation value) ≤ length (now out) ⌝ }
+    ensures { λ r. ⌜ Puts (now (out .entry)) at (finishEnd operation value) r (now (out .exit)) ⌝ }
+{
+    let at = put_number(&mut *out, at, operation);
+    let at = put_byte(&mut *out, at, 32);
+    let at = put_number(&mut *out, at, value);
+    put_byte(&mut *out, at, 10)
+}
+
+// ---- whole lines
+
+fn put_done(out: &mut [u8], at: usize, number: u32, waiting: u32, marks: u32) -> usize
+    requires { ⌜ at + length (lineOf number Done waiting marks) ≤ length (now out) ⌝ }
+    ensures { λ r. ⌜ Puts (now (out .entry)) at (lineOf number Done waiting marks) r (now (out .exit)) ⌝ }
+{
+    let at = put_ok(&mut *out, at, number, waiting, marks);
+    put_four(&mut *out, at, 45, 32, 45, 10)
+}
+
+fn put_finished(
+    out: &mut [u8],
+    at: usize,
+    number: u32,
+    operation: u32,
+    value: u32,
+    waiting: u32,
+    marks: u32,
+) -> usize
+    requires { ⌜ at + length (lineOf number (Finished operation value) waiting marks) ≤ length (now out) ⌝ }
+    ensures { λ r. ⌜ Puts (now (out .entry)) at (lineOf number (Finished operation value) waiting marks) r (now (out .exit)) ⌝ }
+{
+    let at = put_ok(&mut *out, at, number, waiting, marks);
+    put_finish(&mut *out, at, operation, value)
 }
 
 // The line of a record, from its answer and from what the machine then holds.
-pub fn of_answer(number: u32, answer: Answer, waiting: usize, marks: usize) -> Line
-    ensures { λ r. ⌜ text r ≡ lineOf number answer waiting marks ⌝ }
+fn put_line(
+    out: &mut [u8],
+    at: usize,
+    number: u32,
+    answer: Answer,
+    waiting: u32,
+    marks: u32,
+) -> usize
+    requires { ⌜ at + length (lineOf number answer waiting marks) ≤ length (now out) ⌝ }
+    ensures { λ r. ⌜ Puts (now (out .entry)) at (lineOf number answer waiting marks) r (now (out .exit)) ⌝ }
 {
     match answer {
-        Answer::Done => with_bytes(ok_start(number, waiting, marks), b"- -\n"),
-        Answer::Finished(operation, value) => {
-            let line = with_number(ok_start(number, waiting, marks), operation as usize);
-            let line = with_bytes(line, b" ");
-            let line = with_number(line, value as usize);
-            with_bytes(line, b"\n")
-        }
-        Answer::Refused(refusal) => of_refusal(number, refusal_number(refusal)),
+        Answer::Done => put_done(&mut *out, at, number, waiting, marks),
+        Answer::Finished(operation, value) => put_finished(
+            &mut *out,
+            at,
+            number,
+            operation,
+            value,
+            waiting,
+            marks,
+        ),
+        Answer::Refused(refusal) => put_no(&mut *out, at, number, refusal_number(refusal)),
     }
 }
 
-// How many bytes a line has: a length past the array's end stands for a full one.
-fn length_of(line: Line) -> usize
-    ensures { λ r. ⌜ (r ≡ length (text line)) × (r ≤ 64) ⌝ }
+// ---- how long a line is
+
+fn ok_length(number: u32, waiting: u32, marks: u32) -> usize
+    ensures { λ r. ⌜ (r ≡ length (okStart number waiting marks)) × (r ≤ 36) ⌝ }
 {
-    let n = line.len;
-    if 64 < n {
-        return 64;
+    digits_of(number) + digits_of(waiting) + digits_of(marks) + 6
+}
+
+fn no_length(number: u32, refusal: u8) -> usize
+    ensures { λ r. ⌜ r ≡ length (noLine number refusal) ⌝ }
+{
+    digits_of(number) + digits_of(refusal as u32) + 5
+}
+
+fn line_length(number: u32, answer: Answer, waiting: u32, marks: u32) -> usize
+    ensures { λ r. ⌜ r ≡ length (lineOf number answer waiting marks) ⌝ }
+{
+    match answer {
+        Answer::Done => ok_length(number, waiting, marks) + 4,
+        Answer::Finished(operation, value) => {
+            ok_length(number, waiting, marks) + digits_of(operation) + digits_of(value) + 2
+        }
+        Answer::Refused(refusal) => no_length(number, refusal_number(refusal)),
+    }
+}
+
+// Whether n bytes have room at a place of a buffer of this length.
+pub fn fits(length: usize, at: usize, n: usize) -> bool
+    ensures { λ r. ⌜ r ≡ leb (at + n) length ⌝ }
+{
+    if length < at {
+        return false;
+    }
+    n <= length - at
+}
+
+// The line of a record at a place; the buffer is unchanged where it is too short. How many bytes the line has.
+pub fn put_answer(
+    out: &mut [u8],
+    at: usize,
+    number: u32,
+    answer: Answer,
+    waiting: u32,
+    marks: u32,
+) -> usize
+    ensures { λ r. ⌜ (r ≡ length (lineOf number answer waiting marks))
+        × (now (out .exit) ≡ putIn (now (out .entry)) at (lineOf number answer waiting marks)) ⌝ }
+{
+    if fits(out.len(), at, LONGEST) {
+        return put_line(&mut *out, at, number, answer, waiting, marks) - at;
+    }
+    let n = line_length(number, answer, waiting, marks);
+    if fits(out.len(), at, n) {
+        put_line(&mut *out, at, number, answer, waiting, marks);
     }
     n
 }
 
-// The line goes into the buffer at a place, and no other byte changes; a buffer too short is left as it was.
-pub fn put(line: Line, buf: &mut [u8], at: usize) -> Written
-    ensures { λ r. ⌜ (r ≡ written (now (buf .entry)) at (text line)) × (now (buf .exit) ≡ putIn (now (buf .entry)) at (text line)) ⌝ }
+// The line of a refused record at a place, in the same way.
+pub fn put_refusal(out: &mut [u8], at: usize, number: u32, refusal: u8) -> usize
+    ensures { λ r. ⌜ (r ≡ length (noLine number refusal)) × (now (out .exit) ≡ putIn (now (out .entry)) at (noLine number refusal)) ⌝ }
 {
-    let n = length_of(line);
-    if buf.len() < at {
-        return Written::TooShort;
+    let n = no_length(number, refusal);
+    if fits(out.len(), at, n) {
+        put_no(&mut *out, at, number, refusal);
     }
-    if buf.len() - at < n {
-        return Written::TooShort;
-    }
-    let bytes = line.bytes;
-    copy_in(buf, at, &bytes[..n]);
-    Written::Bytes(n)
-}
-
-// The line goes into the buffer at a place, as `put` puts it. The place after it.
-pub fn append(line: Line, buf: &mut [u8], at: usize) -> usize
-    ensures { λ r. ⌜ (r ≡ placeAfter (now (buf .entry)) at (text line)) × (now (buf .exit) ≡ putIn (now (buf .entry)) at (text line)) ⌝ }
-{
-    match put(line, &mut *buf, at) {
-        Written::Bytes(n) => at + n,
-        Written::TooShort => at,
-    }
+    n
 }

@@ -1,4 +1,4 @@
--- Lists: closing one up by one element, and the place of a number.
+-- Lists: closing one up by one element, the place of a number, and a list by its places.
 use mathlib.Core.Bool.{cond}
 use mathlib.Core.List.{List, [], _∷_, _++_}
 use Prim.Native.Nat.{ℕ, zero, suc, _+_}
@@ -18,3 +18,8 @@ without l i = take i l ++ drop (suc i) l
 unfoldable pub indexOf : List ℕ → ℕ → ℕ
 indexOf [] r = 0
 indexOf (q ∷ l) r = cond (eqb q r) 0 (suc (indexOf l r))
+
+-- the numbers f 0, f 1, .. of n places
+unfoldable pub listOf : (ℕ → ℕ) → ℕ → List ℕ
+listOf f zero = []
+listOf f (suc n) = f 0 ∷ listOf (λ i. f (suc i)) n

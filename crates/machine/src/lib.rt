@@ -1,29 +1,33 @@
-// The step machine of document 01: one step at a time, over a state and a count by value, and a store, open operations and packets that the caller lends.
+// The step machine of document 01: one step at a time, over four lent things (the switch's numbers, the replicas' store, the open operations, the waiting
+// packets) and the count of those that wait.
 ghost use mathlib.Core.Path.{_≡_};
 ghost use Rattle.protocol.specs.Decisions.{given};
-ghost use Rattle.protocol.specs.Steps.{startRefused, startState, startAnswer, startStore, startOpens, delivered, positionOf, decided, machine, answerTo, after};
+ghost use Rattle.protocol.specs.Steps.{machine, startRefused, startAnswer, startSwitch, startStore, startOpens, delivered, positionOf, isMalformed, decided, decidedIn, steppedBy, after};
+ghost use Rattle.machine.specs.{decidedWith};
 ghost use Rattle.waiting.specs.Waiting.{waitingList, heldIn};
-
-pub mod steps;
-
-use delivery::decisions;
-use delivery::messages;
-use limits::OPEN;
+use limits::OBJECTS;
 use limits::Object;
 use limits::Operation;
 use limits::REPLICAS;
+use limits::WAITING;
 use protocol::Answer;
 use protocol::Decision;
-use protocol::Message;
 use protocol::Refusal;
-use protocol::State;
 use protocol::Step;
 use protocol::Stepped;
-use replicas::CELLS;
-use replicas::Chain;
-use replicas::store;
+use protocol::decisions;
+use protocol::messages;
+use replicas::chain;
 use switch::Switch;
+use waiting::Edit;
 use waiting::Packet;
+
+// What is decided of a step, and how many marks count then.
+struct Decided {
+    answer: Answer,
+    edit: Edit,
+    marks: u32,
+}
 
 // Whether a start with n replicas is refused, by 2.
 pub fn start_refused(n: u8) -> bool
@@ -35,37 +39,25 @@ pub fn start_refused(n: u8) -> bool
     REPLICAS < (n as usize)
 }
 
-fn start_state(n: u8) -> State
-    ensures { λ r. ⌜ r ≡ startState n ⌝ }
-{
-    State {
-        switch: Switch::new(1),
-        chain: Chain::new(n as usize),
-        last: 0,
-    }
-}
-
-// A start with n replicas: an empty store with no operation open and no packet waiting; the lent packets are not touched. After a refusal the lent buffers
-// hold what they held; the state that is handed back is then of no use.
-pub fn start(n: u8, cells: &mut [u32; CELLS], opens: &mut [Operation; OPEN]) -> Stepped
+// A start with n replicas: nothing written, no operation open, and none of the caller's packets waits. After a refusal all that is lent holds what it held.
+pub fn start(
+    n: u8,
+    switch: &mut [u32; switch::CELLS],
+    store: &mut [u32; replicas::CELLS],
+    opens: &mut [u32; operations::CELLS],
+) -> Answer
     ensures { λ r. ⌜ (r ≡ startAnswer n)
-        × (now (cells .exit) ≡ startStore n (now (cells .entry)))
+        × (now (switch .exit) ≡ startSwitch n (now (switch .entry)))
+        × (now (store .exit) ≡ startStore n (now (store .entry)))
         × (now (opens .exit) ≡ startOpens n (now (opens .entry))) ⌝ }
 {
     if start_refused(n) {
-        return Stepped {
-            answer: Answer::Refused(Refusal::Replicas),
-            state: start_state(n),
-            count: 0,
-        };
+        return Answer::Refused(Refusal::Replicas);
     }
-    store::clear(&mut *cells);
+    switch::cells::store(&mut *switch, Switch::new(1));
+    chain::clear(&mut *store, n);
     operations::clear(&mut *opens);
-    Stepped {
-        answer: Answer::Done,
-        state: start_state(n),
-        count: 0,
-    }
+    Answer::Done
 }
 
 fn position(x: Step) -> usize
@@ -86,111 +78,166 @@ fn position(x: Step) -> usize
     }
 }
 
+// Whether the step is none.
+fn is_malformed(x: Step) -> bool
+    ensures { λ r. ⌜ r ≡ isMalformed x ⌝ }
+{
+    match x {
+        Step::Start(n) => true,
+        Step::BeginRead(x) => false,
+        Step::BeginWrite(x, v) => false,
+        Step::Deliver(at, choice) => false,
+        Step::Lose(at) => false,
+        Step::Repeat(at) => false,
+        Step::Advance(r) => false,
+        Step::Replace(number) => false,
+        Step::Tell(r) => false,
+        Step::Remove(r) => false,
+        Step::GiveUp(o) => false,
+    }
+}
+
 fn deliver(
-    s: State,
-    cells: &mut [u32; CELLS],
-    opens: &mut [Operation; OPEN],
+    switch: &mut [u32; switch::CELLS],
+    store: &mut [u32; replicas::CELLS],
+    opens: &mut [u32; operations::CELLS],
     held: usize,
     p: Packet,
     at: usize,
     choice: u8,
 ) -> Decision
-    ensures { λ d. ⌜ (d ≡ delivered (given s (now (cells .entry)) (now (opens .entry)) held) p at choice .decision)
-        × (now (cells .exit) ≡ delivered (given s (now (cells .entry)) (now (opens .entry)) held) p at choice .store)
-        × (now (opens .exit) ≡ delivered (given s (now (cells .entry)) (now (opens .entry)) held) p at choice .opens) ⌝ }
+    ensures { λ d. ⌜ (d ≡ delivered (given (now (switch .entry)) (now (store .entry)) (now (opens .entry)) held) p at choice .decision)
+        × (now (switch .exit) ≡ delivered (given (now (switch .entry)) (now (store .entry)) (now (opens .entry)) held) p at choice .switch)
+        × (now (store .exit) ≡ delivered (given (now (switch .entry)) (now (store .entry)) (now (opens .entry)) held) p at choice .store)
+        × (now (opens .exit) ≡ delivered (given (now (switch .entry)) (now (store .entry)) (now (opens .entry)) held) p at choice .opens) ⌝ }
 {
     if held <= at {
-        return decisions::refuse(s, Refusal::NoPacket);
+        return decisions::refuse(Refusal::NoPacket);
+    }
+    if OBJECTS <= (p.object as usize) {
+        return decisions::drop_packet(at);
     }
     let m = messages::message_of(p);
-    delivery::deliver(s, &mut *cells, &mut *opens, held, at, choice, m)
+    delivery::deliver(&mut *switch, &mut *store, &mut *opens, held, at, choice, m)
 }
 
-// What is decided of a step; p is the packet at its position, and the store and the open operations are left as the step leaves them.
-pub fn decide(
-    s: State,
-    cells: &mut [u32; CELLS],
-    opens: &mut [Operation; OPEN],
+// What is decided of a step; p is the packet at its position. The lent numbers are left as the step leaves them.
+fn decide(
+    switch: &mut [u32; switch::CELLS],
+    store: &mut [u32; replicas::CELLS],
+    opens: &mut [u32; operations::CELLS],
     held: usize,
     p: Packet,
     x: Step,
 ) -> Decision
-    ensures { λ d. ⌜ (d ≡ decided (given s (now (cells .entry)) (now (opens .entry)) held) p x .decision)
-        × (now (cells .exit) ≡ decided (given s (now (cells .entry)) (now (opens .entry)) held) p x .store)
-        × (now (opens .exit) ≡ decided (given s (now (cells .entry)) (now (opens .entry)) held) p x .opens) ⌝ }
+    ensures { λ d. ⌜ (d ≡ decided (given (now (switch .entry)) (now (store .entry)) (now (opens .entry)) held) p x .decision)
+        × (now (switch .exit) ≡ decided (given (now (switch .entry)) (now (store .entry)) (now (opens .entry)) held) p x .switch)
+        × (now (store .exit) ≡ decided (given (now (switch .entry)) (now (store .entry)) (now (opens .entry)) held) p x .store)
+        × (now (opens .exit) ≡ decided (given (now (switch .entry)) (now (store .entry)) (now (opens .entry)) held) p x .opens) ⌝ }
 {
     match x {
-        Step::Start(n) => decisions::refuse(s, Refusal::Format),
-        Step::BeginRead(x) => steps::begin(s, &mut *opens, held, false, x as Object, 0),
-        Step::BeginWrite(x, v) => steps::begin(s, &mut *opens, held, true, x as Object, v),
+        Step::Start(n) => decisions::refuse(Refusal::Format),
+        Step::BeginRead(x) => steps::begin(&mut *opens, held, false, x as Object, 0),
+        Step::BeginWrite(x, v) => steps::begin(&mut *opens, held, true, x as Object, v),
         Step::Deliver(at, choice) => deliver(
-            s,
-            &mut *cells,
+            &mut *switch,
+            &mut *store,
             &mut *opens,
             held,
             p,
             at as usize,
             choice,
         ),
-        Step::Lose(at) => steps::lose(s, held, at as usize),
-        Step::Repeat(at) => steps::repeat(s, held, p, at as usize),
-        Step::Advance(r) => steps::advance(s, &mut *cells, held, r),
-        Step::Replace(number) => steps::replace(s, number),
-        Step::Tell(r) => steps::tell(s, r),
-        Step::Remove(r) => steps::remove(s, r),
-        Step::GiveUp(o) => steps::give_up(s, &mut *opens, o as Operation),
+        Step::Lose(at) => steps::lose(held, at as usize),
+        Step::Repeat(at) => steps::repeat(held, p, at as usize),
+        Step::Advance(r) => steps::advance(&mut *store, held, r),
+        Step::Replace(number) => steps::replace(&mut *switch, number),
+        Step::Tell(r) => steps::tell(switch, &mut *store, r),
+        Step::Remove(r) => steps::remove(&mut *store, r),
+        Step::GiveUp(o) => steps::give_up(&mut *opens, o as Operation),
     }
 }
 
-// The same, of `count` packets in so many lent places.
+// The same, where `count` packets wait in so many lent places.
 fn decide_among(
-    s: State,
-    cells: &mut [u32; CELLS],
-    opens: &mut [Operation; OPEN],
+    switch: &mut [u32; switch::CELLS],
+    store: &mut [u32; replicas::CELLS],
+    opens: &mut [u32; operations::CELLS],
     places: usize,
     count: usize,
     p: Packet,
     x: Step,
 ) -> Decision
-    ensures { λ d. ⌜ (d ≡ decided (given s (now (cells .entry)) (now (opens .entry)) (heldIn places count)) p x .decision)
-        × (now (cells .exit) ≡ decided (given s (now (cells .entry)) (now (opens .entry)) (heldIn places count)) p x .store)
-        × (now (opens .exit) ≡ decided (given s (now (cells .entry)) (now (opens .entry)) (heldIn places count)) p x .opens) ⌝ }
+    ensures { λ d. ⌜ (d ≡ decidedIn places (given (now (switch .entry)) (now (store .entry)) (now (opens .entry)) (heldIn count)) p x .decision)
+        × (now (switch .exit) ≡ decidedIn places (given (now (switch .entry)) (now (store .entry)) (now (opens .entry)) (heldIn count)) p x .switch)
+        × (now (store .exit) ≡ decidedIn places (given (now (switch .entry)) (now (store .entry)) (now (opens .entry)) (heldIn count)) p x .store)
+        × (now (opens .exit) ≡ decidedIn places (given (now (switch .entry)) (now (store .entry)) (now (opens .entry)) (heldIn count)) p x .opens) ⌝ }
 {
-    let held = waiting::held(places, count);
-    decide(s, &mut *cells, &mut *opens, held, p, x)
+    if is_malformed(x) {
+        return decisions::refuse(Refusal::Format);
+    }
+    if places < WAITING {
+        return decisions::refuse(Refusal::BufferTooShort);
+    }
+    let held = waiting::held(count);
+    decide(&mut *switch, &mut *store, &mut *opens, held, p, x)
+}
+
+// The same, with the marks that count then.
+fn decide_marks(
+    switch: &mut [u32; switch::CELLS],
+    store: &mut [u32; replicas::CELLS],
+    opens: &mut [u32; operations::CELLS],
+    places: usize,
+    count: usize,
+    p: Packet,
+    x: Step,
+) -> Decided
+    ensures { λ d. ⌜ (d ≡ decidedWith (decidedIn places (given (now (switch .entry)) (now (store .entry)) (now (opens .entry)) (heldIn count)) p x))
+        × (now (switch .exit) ≡ decidedIn places (given (now (switch .entry)) (now (store .entry)) (now (opens .entry)) (heldIn count)) p x .switch)
+        × (now (store .exit) ≡ decidedIn places (given (now (switch .entry)) (now (store .entry)) (now (opens .entry)) (heldIn count)) p x .store)
+        × (now (opens .exit) ≡ decidedIn places (given (now (switch .entry)) (now (store .entry)) (now (opens .entry)) (heldIn count)) p x .opens) ⌝ }
+{
+    let d = decide_among(&mut *switch, &mut *store, &mut *opens, places, count, p, x);
+    let marks = switch::cells::count(switch);
+    let answer = d.answer;
+    let edit = d.edit;
+    Decided {
+        answer,
+        edit,
+        marks,
+    }
 }
 
 // What a step hands back, from what was decided and the count after the edit.
-fn result(d: Decision, count: usize) -> Stepped
-    ensures { λ r. ⌜ r ≡ record { answer = d .answer; state = d .state; count = count } ⌝ }
+fn result(d: Decided, count: usize) -> Stepped
+    ensures { λ r. ⌜ r ≡ record { answer = d .answer; count = count; marks = d .marks } ⌝ }
 {
     let answer = d.answer;
-    let state = d.state;
     Stepped {
         answer,
-        state,
         count,
+        marks: d.marks,
     }
 }
 
 // One step of the machine: look at the packet, decide, edit the list.
 pub fn step(
-    s: State,
-    cells: &mut [u32; CELLS],
-    opens: &mut [Operation; OPEN],
+    switch: &mut [u32; switch::CELLS],
+    store: &mut [u32; replicas::CELLS],
+    opens: &mut [u32; operations::CELLS],
     packets: &mut [Packet],
     count: usize,
     x: Step,
 ) -> Stepped
-    ensures { λ r. ⌜ (r .answer ≡ answerTo (machine s (now (cells .entry)) (now (opens .entry)) (waitingList (now (packets .entry)) count)) x)
-        × (r .state ≡ after (machine s (now (cells .entry)) (now (opens .entry)) (waitingList (now (packets .entry)) count)) x .state)
-        × (r .count ≡ after (machine s (now (cells .entry)) (now (opens .entry)) (waitingList (now (packets .entry)) count)) x .waiting .count)
-        × (now (cells .exit) ≡ after (machine s (now (cells .entry)) (now (opens .entry)) (waitingList (now (packets .entry)) count)) x .store)
-        × (now (opens .exit) ≡ after (machine s (now (cells .entry)) (now (opens .entry)) (waitingList (now (packets .entry)) count)) x .opens)
-        × (now (packets .exit) ≡ after (machine s (now (cells .entry)) (now (opens .entry)) (waitingList (now (packets .entry)) count)) x .waiting .packets) ⌝ }
+    ensures { λ r. ⌜ (r ≡ steppedBy (machine (now (switch .entry)) (now (store .entry)) (now (opens .entry)) (waitingList (now (packets .entry)) count)) x)
+        × (now (switch .exit) ≡ after (machine (now (switch .entry)) (now (store .entry)) (now (opens .entry)) (waitingList (now (packets .entry)) count)) x .switch)
+        × (now (store .exit) ≡ after (machine (now (switch .entry)) (now (store .entry)) (now (opens .entry)) (waitingList (now (packets .entry)) count)) x .store)
+        × (now (opens .exit) ≡ after (machine (now (switch .entry)) (now (store .entry)) (now (opens .entry)) (waitingList (now (packets .entry)) count)) x .opens)
+        × (now (packets .exit) ≡ after (machine (now (switch .entry)) (now (store .entry)) (now (opens .entry)) (waitingList (now (packets .entry)) count)) x .waiting .packets) ⌝ }
 {
-    let p = waiting::look(packets, count, position(x));
-    let d = decide_among(s, cells, opens, packets.len(), count, p, x);
+    let p = waiting::look(packets, position(x));
+    let d = decide_marks(switch, store, opens, packets.len(), count, p, x);
     let n = waiting::change(packets, count, d.edit);
     result(d, n)
 }

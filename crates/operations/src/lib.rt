@@ -1,77 +1,96 @@
-// The open operations: their numbers in cells that the caller lends, 0 in a free cell.
+// The open operations: their numbers in cells that the caller lends, without a gap, how many they are, and the last number given.
 ghost use mathlib.Core.Path.{_≡_};
-ghost use lib.ListN.{length};
-ghost use Rattle.lists.specs.{indexOf};
-ghost use Rattle.operations.specs.{noneOpen, isOpen, hasRoom, opening, kept, closing};
+ghost use Prim.Native.Nat.{_≤_, _<_};
+ghost use Rattle.operations.specs.{openCount, lastGiven, noneOpen, openPlace, isOpen, roomToOpen, opening, closing};
 use limits::OPEN;
 use limits::Operation;
 
-// The first cell with the number, or 64. The array has 64 cells by its type; the contract says so for callers that have it behind a reference.
-fn find(cells: [Operation; OPEN], o: Operation) -> usize
-    ensures { λ r. ⌜ (r ≡ indexOf cells o) × (length cells ≡ 64) ⌝ }
+// Where the number of the open operations and the last number given lie: specs/Lib.antt has the same places.
+pub const COUNT: usize = 64;
+
+pub const LAST: usize = 65;
+
+pub const CELLS: usize = 66;
+
+fn wide(x: u32) -> usize
+    ensures { λ r. ⌜ r ≡ x ⌝ }
 {
+    x as usize
+}
+
+// How many operations are open.
+pub fn count(cells: &[u32; CELLS]) -> usize
+    ensures { λ r. ⌜ (r ≡ openCount (now (cells .entry))) × (r ≤ 64) ⌝ }
+{
+    let n = wide(cells[COUNT]);
+    if OPEN < n {
+        return OPEN;
+    }
+    n
+}
+
+pub fn last(cells: &[u32; CELLS]) -> Operation
+    ensures { λ r. ⌜ r ≡ lastGiven (now (cells .entry)) ⌝ }
+{
+    cells[LAST]
+}
+
+// The place of the operation among the open ones, or their number where it is not open.
+fn find(cells: &[u32; CELLS], o: Operation) -> usize
+    ensures { λ r. ⌜ r ≡ openPlace (now (cells .entry)) o ⌝ }
+{
+    let n = count(cells);
     let mut i: usize = 0;
-    while i < OPEN {
+    while i < n {
         if cells[i] == o {
             return i;
         }
         i += 1;
     }
-    i
+    n
 }
 
-pub fn is_open(cells: &[Operation; OPEN], o: Operation) -> bool
+pub fn is_open(cells: &[u32; CELLS], o: Operation) -> bool
     ensures { λ r. ⌜ r ≡ isOpen (now (cells .entry)) o ⌝ }
 {
-    if o == 0 {
-        return false;
-    }
-    find(*cells, o) < OPEN
+    find(cells, o) < count(cells)
 }
 
-pub fn has_room(cells: &[Operation; OPEN]) -> bool
-    ensures { λ r. ⌜ r ≡ hasRoom (now (cells .entry)) ⌝ }
+pub fn has_room(cells: &[u32; CELLS]) -> bool
+    ensures { λ r. ⌜ r ≡ roomToOpen (now (cells .entry)) ⌝ }
 {
-    find(*cells, 0) < OPEN
+    count(cells) < OPEN
 }
 
-// Unchanged where no cell is free.
-pub fn open(cells: &mut [Operation; OPEN], o: Operation)
+// Opens the operation and notes its number as the last given; unchanged where 64 are open.
+pub fn open(cells: &mut [u32; CELLS], o: Operation)
     ensures { λ _. ⌜ now (cells .exit) ≡ opening (now (cells .entry)) o ⌝ }
 {
-    let at = find(*cells, 0);
-    if at < OPEN {
-        cells[at] = o;
+    let n = count(cells);
+    if n < OPEN {
+        cells[n] = o;
+        cells[COUNT] = n as u32 + 1;
+        cells[LAST] = o;
     }
 }
 
-fn keep(p: Operation, o: Operation) -> Operation
-    ensures { λ r. ⌜ r ≡ kept p o ⌝ }
+// Closes the operation, and says whether it was open.
+pub fn close(cells: &mut [u32; CELLS], o: Operation) -> bool
+    ensures { λ r. ⌜ (r ≡ isOpen (now (cells .entry)) o) × (now (cells .exit) ≡ closing (now (cells .entry)) o) ⌝ }
 {
-    if p == o { 0 } else { p }
-}
-
-fn closed(cells: [Operation; OPEN], o: Operation) -> [Operation; OPEN]
-    ensures { λ r. ⌜ r ≡ closing cells o ⌝ }
-{
-    let mut next = cells;
-    let mut i: usize = 0;
-    while i < OPEN {
-        let p = keep(next[i], o);
-        next[i] = p;
-        i += 1;
+    let n = count(cells);
+    let i = find(cells, o);
+    if n <= i {
+        return false;
     }
-    next
+    let p = cells[n - 1];
+    cells[i] = p;
+    cells[COUNT] = (n - 1) as u32;
+    true
 }
 
-pub fn close(cells: &mut [Operation; OPEN], o: Operation)
-    ensures { λ _. ⌜ now (cells .exit) ≡ closing (now (cells .entry)) o ⌝ }
-{
-    *cells = closed(*cells, o);
-}
-
-pub fn clear(cells: &mut [Operation; OPEN])
+pub fn clear(cells: &mut [u32; CELLS])
     ensures { λ _. ⌜ now (cells .exit) ≡ noneOpen ⌝ }
 {
-    *cells = [0; OPEN];
+    *cells = [0; CELLS];
 }

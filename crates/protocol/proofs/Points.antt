@@ -4,19 +4,18 @@ use mathlib.Core.Bool.{Bool, true, false, cond, not}
 use mathlib.Core.List.{List, [], _∷_}
 use Prim.Native.Nat.{ℕ, _+_}
 use lib.Dec.{eqb}
-use lib.ListN.{replicate}
+use lib.ListN.{length, getD, set, replicate}
 use Rattle.limits.specs as limits
-use Rattle.lists.specs.{indexOf, moves}
+use Rattle.lists.specs.{indexOf, listOf, moves}
 use Rattle.stamp.specs.Stamps.{stampOf, numberOf, counterOf, isAbove, largerOf}
-use Rattle.operations.specs.{noneOpen, hasRoom}
-use Rattle.replicas.specs.declared.Chain.{Chain}
-use Rattle.replicas.specs.Chain.{members, liveCount, placeOf, isLive, memberAt, headOf, tailOf, chosenBy, rowOf, highestOf, permittedBy, appliedBy, removed, newChain}
-use Rattle.replicas.specs.Store.{valueCell, stampCell, valueAt, stampAt, written}
-use Rattle.replicas.specs.Replicas.{linkedWrites, accepts, answersDirect}
-use Rattle.switch.specs.declared.Switch.{Switch}
-use Rattle.switch.specs.DirtySet.{slots, firstSlot, secondSlot, thirdSlot, holdsObject, countsAbove, isFree, holdsAbove, freeSlot, slotFor, markAbove, lookedUp, marking, marked, isCompleted, clearedAt, completed, newSwitch, countedTo, countedMarks}
+use Rattle.operations.specs.{noneOpen, openCount, lastGiven, roomToOpen}
+use Rattle.replicas.specs.Store.{entryCell, valueCell, stampCell, storeCells, liveCount, orderAt, members, rowOf, highestOf, permittedBy, appliedBy, valueAt, stampAt, logged, tabled, raised}
+use Rattle.replicas.specs.Chain.{chainPlace, isLive, memberAt, headOf, tailOf, chosenBy, removed, emptyCells, numbered, emptyStore}
+use Rattle.replicas.specs.Replicas.{linkedWrites, accepts, nextPosition, applying, taking, answersDirect}
+use Rattle.switch.specs.Numbers.{slots, numberIn, counterIn, committedIn, slotObject, slotStamp}
+use Rattle.switch.specs.DirtySet.{firstSlot, secondSlot, thirdSlot, holdsObject, countsAbove, isFree, holdsAbove, freeSlot, slotFor, markAbove, lookedUp, nextStamp, marking, canMark, marked, isCompleted, clearedAt, completed, newSwitch, countedTo, countedMarks}
 use Rattle.waiting.specs.declared.Packet.{Packet}
-use Rattle.waiting.specs.Waiting.{WaitingList, waitingList, placesIn, heldIn, held, blank, noneWait, lookAt, takenOut, putLast, afterTaking, edited}
+use Rattle.waiting.specs.Waiting.{WaitingList, waitingList, heldIn, held, blank, noneWait, lookAt, takesOut, leftBy, fits, afterTaking, adding, edited}
 use Rattle.protocol.specs.declared.Answer.{Answer}
 use Rattle.protocol.specs.declared.Answer.the-variants.{Done, Finished, Refused}
 use Rattle.protocol.specs.declared.Message.{Message}
@@ -27,7 +26,7 @@ use Rattle.protocol.specs.Answers.{refusalNumber}
 use Rattle.protocol.specs.Messages.{packetOf, messageOf, isUnstamped}
 use Rattle.protocol.specs.Decisions.{refusing, passing, overfull}
 use Rattle.protocol.specs.Delivery.{directRead, stampedWrite, deliveredMessage}
-use Rattle.protocol.specs.Steps.{Machine, machine, startRefused, startState, startAnswer, begun, delivered, repeated, positionOf, decided, answerTo, after}
+use Rattle.protocol.specs.Steps.{Machine, machine, startRefused, startAnswer, started, beginOperation, delivered, repeated, positionOf, isMalformed, decided, decidedIn, answerTo, after}
 
 -- a point of document 01: its number, and tests that must all pass
 pub record Point : Type 0 where
@@ -43,10 +42,10 @@ pub allTrue : List Bool → Bool
 allTrue [] = true
 allTrue (b ∷ l) = cond b (allTrue l) false
 
--- every test of every point passes
-pub allHold : List Point → Bool
-allHold [] = true
-allHold (p ∷ l) = cond (allTrue (p .tests)) (allHold l) false
+-- the rows are numbered from n up to the last one, and every test of each passes
+pub allHold : ℕ → ℕ → List Point → Bool
+allHold n last [] = eqb n (last + 1)
+allHold n last (p ∷ l) = cond (eqb (p .number) n) (cond (allTrue (p .tests)) (allHold (n + 1) last l) false) false
 
 -- ---- what the rows speak of
 
@@ -56,9 +55,9 @@ gives Done n = eqb 0 n
 gives (Finished o v) n = eqb 0 n
 gives (Refused r) n = eqb (refusalNumber r) n
 
--- a machine with a lone replica, an empty store, no operation open, and these packets waiting
+-- a machine with a lone replica, nothing written, no operation open, and these packets waiting
 lone : WaitingList → Machine
-lone w = machine (startState 1) [] noneOpen w
+lone w = machine (newSwitch 1) (emptyStore 1) noneOpen w
 
 -- so many packets with this message
 copies : ℕ → Message → WaitingList
@@ -69,25 +68,25 @@ emptyList : WaitingList
 emptyList = noneWait (replicate limits.waiting blank)
 
 -- the switch after these objects were marked in turn
-markedAll : Switch → List ℕ → Switch
+markedAll : List ℕ → List ℕ → List ℕ
 markedAll w [] = w
-markedAll w (o ∷ l) = markedAll (marked w o .state) l
+markedAll w (o ∷ l) = markedAll (marked w o) l
 
 -- P4's five marks, one after the other
-switchOfP4 : Switch
+switchOfP4 : List ℕ
 switchOfP4 = markedAll (newSwitch 1) (16 ∷ 512 ∷ 32 ∷ 17 ∷ 33 ∷ [])
 
 -- object 5 has the mark (1,4)
-switchOfP7 : Switch
+switchOfP7 : List ℕ
 switchOfP7 = markedAll (newSwitch 1) (5 ∷ 5 ∷ 5 ∷ 5 ∷ [])
 
--- replica 1 has value 9 and stamp (1,4) for object 0; the store ends with that stamp's cell
+-- of two replicas, replica 1 has value 9 and stamp (1,4) for object 0
 storeOfP6 : List ℕ
-storeOfP6 = written (replicate 9217 0) 1 (record { operation = 1; object = 0; value = 9; stamp = stampOf 1 4 })
+storeOfP6 = applying (emptyStore 2) 1 (record { operation = 1; object = 0; value = 9; stamp = stampOf 1 4 })
 
 -- operation 7 reads object 0 at replica 1 of 2, with switch number 1 and this stamp
 readOfP6 : ℕ → Decision
-readOfP6 t = directRead (startState 2) storeOfP6 0 1 1 t 7 0
+readOfP6 t = directRead storeOfP6 0 1 1 t 7 0
 
 -- the decision puts this message, and no other, into the waiting list
 sends : Decision → Message → Bool
@@ -104,8 +103,8 @@ writeOfP10 : Message
 writeOfP10 = StampedWrite 1 (record { operation = 1; object = 5; value = 9; stamp = stampOf 1 1 })
 
 -- of four replicas, 3 is gone
-chainOfP11 : Chain
-chainOfP11 = removed (newChain 4) 3
+storeOfP11 : List ℕ
+storeOfP11 = removed (emptyStore 4) 3
 
 -- ---- the table
 
@@ -120,12 +119,12 @@ points =
     gives (answerTo (lone emptyList) (BeginWrite 1023 9)) 0 ∷ gives (answerTo (lone emptyList) (BeginWrite 1024 9)) 3 ∷ []) ∷
     -- 'Starts 1 and 8 stand; 0 and 9 give 2.'
     point 3
-    (gives (startAnswer 1 .answer) 0 ∷ gives (startAnswer 8 .answer) 0 ∷
-    gives (startAnswer 0 .answer) 2 ∷ gives (startAnswer 9 .answer) 2 ∷ []) ∷
+    (gives (startAnswer 1) 0 ∷ gives (startAnswer 8) 0 ∷
+    gives (startAnswer 0) 2 ∷ gives (startAnswer 9) 2 ∷ []) ∷
     -- 'From no marks and with none completed, marking 16, 512, 32, 17, 33 leaves no slot for 0.'
-    point 4 (eqb (countedMarks switchOfP4) 5 ∷ eqb (slotFor switchOfP4 0) slots ∷ not (marked switchOfP4 0 .ok) ∷ []) ∷
+    point 4 (eqb (countedMarks switchOfP4) 5 ∷ eqb (slotFor switchOfP4 0) slots ∷ not (canMark switchOfP4 0) ∷ []) ∷
     -- 'After P4, object 256 takes slot 4 of the third stage.'
-    point 5 (eqb (slotFor switchOfP4 256) (32 + 4) ∷ marked switchOfP4 256 .ok ∷ []) ∷
+    point 5 (eqb (slotFor switchOfP4 256) (32 + 4) ∷ canMark switchOfP4 256 ∷ []) ∷
     -- 'Object stamp (1,4): a direct read with (1,4) is answered, with (1,3) sent to the tail.'
     point 6 (sends (readOfP6 (stampOf 1 4)) (Reply 7 9) ∷ sends (readOfP6 (stampOf 1 3)) (NormalRead 2 7 0) ∷ []) ∷
     -- 'Completion (1,3) leaves the same object's mark (1,4) counting.'
@@ -141,10 +140,10 @@ points =
     (gives (answerTo (lone (copies 64 writeOfP10)) (Deliver 0 0)) 6 ∷ gives (answerTo (lone (copies 63 writeOfP10)) (Deliver 0 0)) 0 ∷
     eqb (held (after (lone (copies 63 writeOfP10)) (Deliver 0 0) .waiting)) 64 ∷ []) ∷
     -- 'Live 1, 2, 4 and choice 5: replica 4.'
-    point 11 (eqb (liveCount chainOfP11) 3 ∷ eqb (chosenBy chainOfP11 5) 4 ∷ []) ∷
+    point 11 (eqb (liveCount storeOfP11) 3 ∷ eqb (chosenBy storeOfP11 5) 4 ∷ []) ∷
     []
 
--- the definitions compute every row
-pub points-hold : allHold points ≡ true
-unfolding points allHold allTrue gives lone copies emptyList markedAll switchOfP4 switchOfP7 storeOfP6 readOfP6 sends writeOfP10 chainOfP11 stampOf numberOf counterOf isAbove largerOf noneOpen hasRoom indexOf moves members liveCount placeOf isLive memberAt headOf tailOf chosenBy rowOf highestOf permittedBy appliedBy removed newChain valueCell stampCell valueAt stampAt written linkedWrites accepts answersDirect firstSlot secondSlot thirdSlot holdsObject countsAbove isFree holdsAbove freeSlot slotFor markAbove lookedUp marking marked isCompleted clearedAt completed newSwitch countedTo countedMarks placesIn heldIn noneWait lookAt takenOut putLast afterTaking edited packetOf messageOf isUnstamped refusing passing overfull directRead stampedWrite deliveredMessage startRefused startState startAnswer begun delivered repeated positionOf decided answerTo after
+-- the definitions compute every row, and no row is missing
+pub points-hold : allHold 1 11 points ≡ true
+unfolding points allHold allTrue gives lone copies emptyList markedAll switchOfP4 switchOfP7 storeOfP6 readOfP6 sends writeOfP10 storeOfP11 stampOf numberOf counterOf isAbove largerOf noneOpen openCount lastGiven roomToOpen indexOf listOf moves entryCell valueCell stampCell storeCells liveCount orderAt members rowOf highestOf permittedBy appliedBy valueAt stampAt logged tabled raised chainPlace isLive memberAt headOf tailOf chosenBy removed emptyCells numbered emptyStore linkedWrites accepts nextPosition applying taking answersDirect numberIn counterIn committedIn slotObject slotStamp firstSlot secondSlot thirdSlot holdsObject countsAbove isFree holdsAbove freeSlot slotFor markAbove lookedUp nextStamp marking canMark marked isCompleted clearedAt completed newSwitch countedTo countedMarks heldIn noneWait lookAt takesOut leftBy fits afterTaking adding edited packetOf messageOf isUnstamped refusing passing overfull directRead stampedWrite deliveredMessage startRefused startAnswer beginOperation delivered repeated positionOf isMalformed decided decidedIn answerTo after
 points-hold = refl

@@ -6,13 +6,15 @@ use mathlib.Core.List.{List}
 use Prim.Native.Nat.{ℕ, _≤_}
 use native.Mathlib.Omega.{arith}
 use lib.Dec.{eqb, leb, ltb, T, when}
+use lib.ListN.{length}
 use borrow.Author.Tests.{eqb-true, eqb-false, leb-true, ltb-false, ne-eqb, le-ltb}
 use Rattle.limits.specs as limits
-use Rattle.operations.specs.{noneOpen, isOpen, hasRoom}
-use Rattle.replicas.specs.Chain.{isLive, liveCount, tailOf, allPermit}
-use Rattle.replicas.specs.Store.{emptyStore}
-use Rattle.replicas.specs.Replicas.{world, accepts, pending, answersDirect}
-use Rattle.switch.specs.DirtySet.{lookedUp, marked}
+use Rattle.operations.specs.{isOpen, lastGiven, roomToOpen}
+use Rattle.replicas.specs.Store.{liveCount}
+use Rattle.replicas.specs.Chain.{isLive, tailOf, allPermit}
+use Rattle.replicas.specs.Replicas.{accepts, pending, answersDirect}
+use Rattle.switch.specs.Numbers.{numberIn, directIn}
+use Rattle.switch.specs.DirtySet.{lookedUp, stampFor}
 use Rattle.waiting.proofs.Laws.{edited-none}
 use Rattle.waiting.specs.Waiting.{lookAt}
 use Rattle.waiting.specs.declared.Packet.{Packet}
@@ -27,44 +29,51 @@ use Rattle.protocol.specs.declared.Step.{Step}
 use Rattle.protocol.specs.declared.Step.the-variants.{Start, BeginRead, BeginWrite, Deliver, Lose, Repeat, Advance, Replace, Tell, Remove, GiveUp}
 use Rattle.protocol.specs.Answers.{refusalNumber}
 use Rattle.protocol.specs.Messages.{messageOf, isUnstamped}
-use Rattle.protocol.specs.Decisions.{Given, Outcome, Stored, Opened, keeping, keepingOpens, keepingStore, noEdit, refusing, dropping, passing, overfull}
-use Rattle.protocol.specs.Delivery.{unstampedWrite, switchRead, stampedWrite, directRead, normalRead, completion, reply, deliveredMessage}
-use Rattle.protocol.specs.Steps.{Machine, machine, givenBy, outcomeOf, positionOf, decided, begun, delivered, lost, repeated, advancing, replaced, told, removing, givenUp, answerTo, after, startRefused, startAnswer, startStore, startOpens}
+use Rattle.protocol.specs.Decisions.{Given, Outcome, Switched, Stored, Opened, keeping, changingSwitch, changingStore, changingOpens, noEdit, refusing, dropping, passing, overfull}
+use Rattle.protocol.specs.Delivery.{stamping, unstampedWrite, switchRead, stampedWrite, directRead, normalRead, completion, reply, deliveredMessage}
+use Rattle.protocol.specs.Steps.{Machine, machine, givenBy, outcomeOf, positionOf, isMalformed, decided, decidedIn, beginOperation, delivered, lost, repeated, advancing, replacing, telling, removing, givingUp}
+use Rattle.protocol.specs.Steps.{answerTo, after, startRefused, startAnswer, started, startSwitch, startStore, startOpens, startWaiting, afterStart}
 
 -- the step is a delivery
 abbrev pub IsDeliver : Step → Type 0
 IsDeliver x = (at : ℕ) × (choice : ℕ) × (x ≡ Deliver at choice)
 
--- what a step can answer: done, an operation finished, or a refusal with number 1 or 3 to 13
+-- what a step can answer: done, an operation finished, or a refusal with number 1, 3 to 13 or 15
+abbrev pub StepNumber : ℕ → Type 0
+StepNumber n = (n ≡ 1) ⊎ ((3 ≤ n) × (n ≤ 13)) ⊎ (n ≡ 15)
+
 abbrev pub StepAnswer : Answer → Type 0
 StepAnswer a = (a ≡ Done)
     ⊎ ((o : ℕ) × (v : ℕ) × (a ≡ Finished o v))
-    ⊎ ((r : Refusal) × (a ≡ Refused r) × ((refusalNumber r ≡ 1) ⊎ ((3 ≤ refusalNumber r) × (refusalNumber r ≤ 13))))
+    ⊎ ((r : Refusal) × (a ≡ Refused r) × StepNumber (refusalNumber r))
 
 -- the numbers of a step's refusals, as a test
 abbrev isStepNumber : ℕ → Bool
-isStepNumber n = cond (eqb n 1) true (cond (leb 3 n) (leb n 13) false)
+isStepNumber n = cond (eqb n 1) true (cond (eqb n 15) true (cond (leb 3 n) (leb n 13) false))
 
 -- what holds of the outcome of a step, by its answer: only a delivery finishes an operation; a refusal has one of those numbers, and leaves all as it
 -- was given
 abbrev SoundAnswer : Given → Step → Outcome → Answer → Type 0
 SoundAnswer g x u Done = Unit {0}
 SoundAnswer g x u (Finished o v) = IsDeliver x
-SoundAnswer g x u (Refused r) = when (isStepNumber (refusalNumber r)) (u ≡ keeping g (refusing (g .state) r))
+SoundAnswer g x u (Refused r) = when (isStepNumber (refusalNumber r)) (u ≡ keeping g (refusing r))
 
 -- an outcome of which that holds
 abbrev Sound : Given → Step → Outcome → Type 0
 Sound g x u = SoundAnswer g x u (u .decision .answer)
 
--- a decision with such an outcome; so with the store that it leaves, or the open operations
+-- a decision with such an outcome; so with the part that it changes
 abbrev OfDecision : Given → Step → Decision → Type 0
 OfDecision g x d = Sound g x (keeping g d)
 
+abbrev OfSwitched : Given → Step → Switched → Type 0
+OfSwitched g x u = Sound g x (changingSwitch g u)
+
 abbrev OfStored : Given → Step → Stored → Type 0
-OfStored g x u = Sound g x (keepingOpens g u)
+OfStored g x u = Sound g x (changingStore g u)
 
 abbrev OfOpened : Given → Step → Opened → Type 0
-OfOpened g x u = Sound g x (keepingStore g u)
+OfOpened g x u = Sound g x (changingOpens g u)
 
 -- what holds of both of two things holds of the one that a test chooses
 by-test : {A : Type 0} (P : A → Type 0) (b : Bool) {y z : A} → P y → P z → P (cond b y z)
@@ -73,59 +82,64 @@ by-test P false p q = q
 
 module _ (g : Given) (x : Step) where
   -- a begin
-  begin-sound : (isWrite : Bool) (y v : ℕ) → Sound g x (keepingStore g (begun (g .state) (g .opens) (g .held) isWrite y v))
-  unfolding begun refusing
+  begin-sound : (isWrite : Bool) (y v : ℕ) → OfOpened g x (beginOperation (g .opens) (g .held) isWrite y v)
+  unfolding beginOperation refusing
   begin-sound isWrite y v =
       by-test (OfOpened g x) (leb limits.objects y) refl
-      (by-test (OfOpened g x) (leb limits.lastOperation (g .state .last)) refl
-      (by-test (OfOpened g x) (hasRoom (g .opens)) (by-test (OfOpened g x) (overfull (g .held) 0 1) refl tt) refl))
+      (by-test (OfOpened g x) (leb limits.lastOperation (lastGiven (g .opens))) refl
+      (by-test (OfOpened g x) (roomToOpen (g .opens)) (by-test (OfOpened g x) (overfull (g .held) 0 1) refl tt) refl))
+
+  -- a write with its stamp, whatever the switch then is
+  stamp-sound : (w : List ℕ) (at o y v stamp : ℕ) → OfSwitched g x (record { decision = stamping (g .store) at o y v stamp; switch = w })
+  unfolding stamping dropping passing
+  stamp-sound w at o y v stamp = by-test (λ d. OfSwitched g x (record { decision = d; switch = w })) (eqb stamp 0) tt tt
 
   -- what delivery of a message does, in a step that delivers
   deliver-sound : (at choice : ℕ) → IsDeliver x → (q : Message) → Sound g x (deliveredMessage g at choice q)
   unfolding deliveredMessage unstampedWrite switchRead stampedWrite directRead normalRead completion reply refusing dropping passing
   deliver-sound at choice d (UnstampedWrite o y v) =
-      by-test (OfDecision g x) (allPermit (g .state .chain) (g .state .switch .number))
-      (by-test (OfDecision g x) (marked (g .state .switch) y .ok) tt tt) tt
+      by-test (OfSwitched g x) (allPermit (g .store) (numberIn (g .switch))) (stamp-sound _ at o y v (stampFor (g .switch) y)) tt
   deliver-sound at choice d (SwitchRead o y) =
-      by-test (OfDecision g x) (g .state .switch .direct)
-      (by-test (OfDecision g x) (eqb (lookedUp (g .state .switch) y) 0) tt tt) tt
+      by-test (OfDecision g x) (directIn (g .switch)) (by-test (OfDecision g x) (eqb (lookedUp (g .switch) y) 0) tt tt) tt
   deliver-sound at choice d (StampedWrite r w) =
-      by-test (OfStored g x) (accepts (g .state .chain) r (w .stamp))
-      (by-test (OfStored g x) (eqb r (tailOf (g .state .chain)))
-      (by-test (OfStored g x) (overfull (g .held) 1 2) refl tt) tt) tt
+      by-test (OfStored g x) (accepts (g .store) r (w .stamp))
+      (by-test (OfStored g x) (eqb r (tailOf (g .store))) (by-test (OfStored g x) (overfull (g .held) 1 2) refl tt) tt) tt
   deliver-sound at choice d (DirectRead r number t o y) =
-      by-test (OfDecision g x) (isLive (g .state .chain) r)
-      (by-test (OfDecision g x) (answersDirect (world (g .state .chain) (g .store)) r y number t) tt tt) tt
-  deliver-sound at choice d (NormalRead r o y) = by-test (OfDecision g x) (isLive (g .state .chain) r) tt tt
+      by-test (OfDecision g x) (isLive (g .store) r) (by-test (OfDecision g x) (answersDirect (g .store) r y number t) tt tt) tt
+  deliver-sound at choice d (NormalRead r o y) = by-test (OfDecision g x) (isLive (g .store) r) tt tt
   deliver-sound at choice d (Completion y t) = tt
   deliver-sound at choice d (Reply o v) = by-test (OfOpened g x) (isOpen (g .opens) o) d tt
   deliver-sound at choice d Unknown = tt
 
 -- every step, whatever packet stands at its position
 step-sound : (g : Given) (p : Packet) (x : Step) → Sound g x (decided g p x)
-unfolding decided delivered lost repeated advancing replaced told removing givenUp dropping refusing
+unfolding decided delivered lost repeated advancing replacing telling removing givingUp dropping refusing
 step-sound g p (Start n) = refl
 step-sound g p (BeginRead y) = begin-sound g (BeginRead y) false y 0
 step-sound g p (BeginWrite y v) = begin-sound g (BeginWrite y v) true y v
 step-sound g p (Deliver at choice) =
     by-test (Sound g (Deliver at choice)) (leb (g .held) at) refl
-    (deliver-sound g (Deliver at choice) at choice (at, choice, refl) (messageOf p))
+    (by-test (Sound g (Deliver at choice)) (leb limits.objects (p .object)) tt
+    (deliver-sound g (Deliver at choice) at choice (at, choice, refl) (messageOf p)))
 step-sound g p (Lose at) = by-test (OfDecision g (Lose at)) (leb (g .held) at) refl tt
 step-sound g p (Repeat at) =
     by-test (OfDecision g (Repeat at)) (leb (g .held) at) refl
     (by-test (OfDecision g (Repeat at)) (isUnstamped p) refl
     (by-test (OfDecision g (Repeat at)) (overfull (g .held) 0 1) refl tt))
 step-sound g p (Advance r) =
-    by-test (OfStored g (Advance r)) (isLive (g .state .chain) r)
-    (by-test (OfStored g (Advance r)) (eqb (pending (g .state .chain) r) 0) refl
-    (by-test (OfStored g (Advance r)) (eqb r (tailOf (g .state .chain)))
-    (by-test (OfStored g (Advance r)) (overfull (g .held) 0 2) refl tt) tt)) refl
-step-sound g p (Replace number) = by-test (OfDecision g (Replace number)) (leb number (g .state .switch .number)) refl tt
-step-sound g p (Tell r) = by-test (OfDecision g (Tell r)) (isLive (g .state .chain) r) tt refl
+    by-test (OfStored g (Advance r)) (isLive (g .store) r)
+    (by-test (OfStored g (Advance r)) (eqb (pending (g .store) r) 0) refl
+    (by-test (OfStored g (Advance r)) (eqb r (tailOf (g .store))) (by-test (OfStored g (Advance r)) (overfull (g .held) 0 2) refl tt) tt)) refl
+step-sound g p (Replace number) = by-test (OfSwitched g (Replace number)) (leb number (numberIn (g .switch))) refl tt
+step-sound g p (Tell r) = by-test (OfStored g (Tell r)) (isLive (g .store) r) tt refl
 step-sound g p (Remove r) =
-    by-test (OfDecision g (Remove r)) (isLive (g .state .chain) r)
-    (by-test (OfDecision g (Remove r)) (leb (liveCount (g .state .chain)) 1) refl tt) refl
+    by-test (OfStored g (Remove r)) (isLive (g .store) r) (by-test (OfStored g (Remove r)) (leb (liveCount (g .store)) 1) refl tt) refl
 step-sound g p (GiveUp o) = by-test (OfOpened g (GiveUp o)) (isOpen (g .opens) o) tt refl
+
+in-sound : (places : ℕ) (g : Given) (p : Packet) (x : Step) → Sound g x (decidedIn places g p x)
+unfolding decidedIn refusing
+in-sound places g p x =
+    by-test (Sound g x) (isMalformed x) refl (by-test (Sound g x) (ltb places limits.waiting) refl (step-sound g p x))
 
 -- what a test guards, and that it passes
 passed : {X : Type 0} (b : Bool) → when b X → (b ≡ true) × X
@@ -133,32 +147,33 @@ passed true h = (refl, h)
 passed false h = absurd h
 
 -- the test and the numbers
-step-number : (n : ℕ) → isStepNumber n ≡ true → (n ≡ 1) ⊎ ((3 ≤ n) × (n ≤ 13))
-step-number n = go (eqb n 1) refl (leb 3 n) refl
+step-number : (n : ℕ) → isStepNumber n ≡ true → StepNumber n
+step-number n = go (eqb n 1) refl (eqb n 15) refl (leb 3 n) refl
   where
-    go : (s : Bool) → eqb n 1 ≡ s → (t : Bool) → leb 3 n ≡ t → cond s true (cond t (leb n 13) false) ≡ true →
-        (n ≡ 1) ⊎ ((3 ≤ n) × (n ≤ 13))
-    go true e t f h = inl (eqb-true n 1 e)
-    go false e true f h = inr (leb-true 3 n f, leb-true n 13 h)
-    go false e false f h = absurd (subst T (sym h) tt)
+    go : (s : Bool) → eqb n 1 ≡ s → (l : Bool) → eqb n 15 ≡ l → (t : Bool) → leb 3 n ≡ t → cond s true (cond l true (cond t (leb n 13) false)) ≡ true →
+        StepNumber n
+    go true e l d t f h = inl (eqb-true n 1 e)
+    go false e true d t f h = inr (inr (eqb-true n 15 d))
+    go false e false d true f h = inr (inl (leb-true 3 n f, leb-true n 13 h))
+    go false e false d false f h = absurd (subst T (sym h) tt)
 
 -- every step of a machine
 module _ (m : Machine) (x : Step) where
   -- what holds of its outcome, whatever its answer
   sound : (a : Answer) → answerTo m x ≡ a → SoundAnswer (givenBy m) x (outcomeOf m x) a
   unfolding answerTo
-  sound a e = subst (SoundAnswer (givenBy m) x (outcomeOf m x)) e (step-sound (givenBy m) (lookAt (m .waiting) (positionOf x)) x)
+  sound a e = subst (SoundAnswer (givenBy m) x (outcomeOf m x)) e (in-sound (length (m .waiting .packets)) (givenBy m) (lookAt (m .waiting .packets) (positionOf x)) x)
 
   -- of a refusal, its number and that nothing is changed
   sound-refusal : (r : Refusal) → answerTo m x ≡ Refused r →
-      (isStepNumber (refusalNumber r) ≡ true) × (outcomeOf m x ≡ keeping (givenBy m) (refusing (m .state) r))
+      (isStepNumber (refusalNumber r) ≡ true) × (outcomeOf m x ≡ keeping (givenBy m) (refusing r))
   sound-refusal r e = passed (isStepNumber (refusalNumber r)) (sound (Refused r) e)
 
-  -- a refused step leaves the state, the store, the open operations and the waiting list as they were
+  -- a refused step leaves the switch, the store, the open operations and the waiting list as they were
   pub refused-unchanged : (r : Refusal) → answerTo m x ≡ Refused r → after m x ≡ m
   unfolding after refusing
   refused-unchanged r e =
-      rw (sound-refusal r e .1) (ap (machine (m .state) (m .store) (m .opens)) (edited-none (m .waiting) noEdit refl refl))
+      rw (sound-refusal r e .1) (ap (machine (m .switch) (m .store) (m .opens)) (edited-none (m .waiting) noEdit refl refl))
 
   -- no step answers anything else
   pub answer-cases : StepAnswer (answerTo m x)
@@ -175,7 +190,7 @@ module _ (m : Machine) (x : Step) where
 
 -- a start that comes as a step is refused, so it changes nothing
 pub start-keeps : (m : Machine) (n : ℕ) → after m (Start n) ≡ m
-unfolding answerTo decided refusing
+unfolding answerTo decidedIn isMalformed refusing
 start-keeps m n = refused-unchanged m (Start n) Format refl
 
 -- ---- the start
@@ -189,12 +204,23 @@ start-accepted n = (to (eqb n 0) refl, λ h. rw (ne-eqb n 0 (omega arith)) (le-l
     to true z e = absurd (subst T e tt)
     to false z e = omega (arith, eqb-false n 0 z, ltb-false limits.replicas n e)
 
--- a refused start leaves both lent buffers as they were
-pub start-unchanged : (n : ℕ) (store opens : List ℕ) (r : Refusal) → startAnswer n .answer ≡ Refused r →
-    (startStore n store ≡ store) × (startOpens n opens ≡ opens)
-unfolding startAnswer startStore startOpens
-start-unchanged n store opens r e = go (startRefused n) e
+-- it is refused or done
+pub start-cases : (n : ℕ) → ((startRefused n ≡ true) × (startAnswer n ≡ Refused Replicas)) ⊎ ((startRefused n ≡ false) × (startAnswer n ≡ Done))
+unfolding startAnswer
+start-cases n = go (startRefused n) refl
   where
-    go : (t : Bool) → cond t (Refused Replicas) Done ≡ Refused r → (cond t store emptyStore ≡ store) × (cond t opens noneOpen ≡ opens)
-    go true e = (refl, refl)
-    go false e = (cc, cc)
+    go : (t : Bool) → startRefused n ≡ t →
+        ((startRefused n ≡ true) × (cond (startRefused n) (Refused Replicas) Done ≡ Refused Replicas)) ⊎
+        ((startRefused n ≡ false) × (cond (startRefused n) (Refused Replicas) Done ≡ Done))
+    go true e = inl (e, rw e)
+    go false e = inr (e, rw e)
+
+-- a refused start leaves everything as it was
+pub start-unchanged : (n : ℕ) (m : Machine) → startRefused n ≡ true → afterStart n m ≡ m
+unfolding startSwitch startStore startOpens startWaiting
+start-unchanged n m e = rw e
+
+-- an accepted start gives the empty store that runs begin with
+pub start-gives : (n : ℕ) (m : Machine) → startRefused n ≡ false → afterStart n m ≡ started n (m .waiting .packets)
+unfolding startSwitch startStore startOpens startWaiting started
+start-gives n m e = rw e

@@ -3,29 +3,43 @@ use mathlib.Core.Bool.{Bool, true, false, cond}
 use mathlib.Core.List.{List}
 use Prim.Native.Nat.{ℕ, _+_}
 use lib.Dec.{eqb, leb, ltb}
+use lib.ListN.{length}
 use Rattle.limits.specs as limits
-use Rattle.operations.specs.{noneOpen, isOpen, hasRoom, opening, closing}
-use Rattle.replicas.specs.Chain.{isLive, liveCount, tailOf, permitting, removed, newChain}
-use Rattle.replicas.specs.Store.{emptyStore}
-use Rattle.replicas.specs.Replicas.{world, pending, oldest, advanced}
-use Rattle.switch.specs.DirtySet.{newSwitch}
+use Rattle.operations.specs.{lastGiven, noneOpen, isOpen, roomToOpen, opening, closing}
 use Rattle.replicas.specs.declared.Write.{Write}
+use Rattle.replicas.specs.Store.{liveCount}
+use Rattle.replicas.specs.Chain.{isLive, tailOf, permitting, removed, emptyStore}
+use Rattle.replicas.specs.Replicas.{applying, pending, oldest}
+use Rattle.switch.specs.Numbers.{numberIn}
+use Rattle.switch.specs.DirtySet.{newSwitch, countedMarks}
 use Rattle.waiting.specs.declared.Packet.{Packet}
 use Rattle.waiting.specs.declared.Edit.{Edit}
 use Rattle.waiting.specs.Waiting.{WaitingList, held, lookAt, edited, noneWait}
-use Rattle.protocol.specs.declared.Refusal.the-variants.{Format, Replicas, ObjectNumber, OperationsUsedUp, OpenFull, WaitingFull, NoPacket, UnstampedRepeat, NotLive, NoLinkedWrite, SwitchNumber, LastReplica, NotOpen}
+use Rattle.protocol.specs.declared.Refusal.the-variants.{Format, Replicas, ObjectNumber, OperationsUsedUp, OpenFull, WaitingFull, NoPacket, UnstampedRepeat, NotLive, NoLinkedWrite, SwitchNumber, LastReplica, NotOpen, BufferTooShort}
 use Rattle.protocol.specs.declared.Answer.{Answer}
 use Rattle.protocol.specs.declared.Answer.the-variants.{Done, Refused}
 use Rattle.protocol.specs.declared.Stepped.{Stepped}
 use Rattle.protocol.specs.declared.Message.{Message}
 use Rattle.protocol.specs.declared.Message.the-variants.{UnstampedWrite, SwitchRead, Completion, Reply}
-use Rattle.protocol.specs.declared.State.{State}
 use Rattle.protocol.specs.declared.Decision.{Decision}
 use Rattle.protocol.specs.declared.Step.{Step}
 use Rattle.protocol.specs.declared.Step.the-variants.{Start, BeginRead, BeginWrite, Deliver, Lose, Repeat, Advance, Replace, Tell, Remove, GiveUp}
 use Rattle.protocol.specs.Messages.{packetOf, messageOf, isUnstamped}
-use Rattle.protocol.specs.Decisions.{Given, given, Outcome, Stored, Opened, keeping, keepingOpens, keepingStore, decide, noEdit, takeOut, addOne, addTwo, refusing, dropping, withSwitch, withChain, overfull}
+use Rattle.protocol.specs.Decisions.{Given, given, Outcome, Switched, Stored, Opened, switched, stored, opened, keeping, changingSwitch, changingStore, changingOpens}
+use Rattle.protocol.specs.Decisions.{deciding, noEdit, addOne, addTwo, refusing, dropping, overfull}
 use Rattle.protocol.specs.Delivery.{deliveredMessage}
+
+-- ---- the machine
+
+-- what is lent: the numbers of the switch, of the replicas and of the open operations, and the waiting packets
+pub record Machine : Type 0 where
+  pub switch : List ℕ
+  pub store : List ℕ
+  pub opens : List ℕ
+  pub waiting : WaitingList
+
+abbrev pub machine : List ℕ → List ℕ → List ℕ → WaitingList → Machine
+machine switch store opens w = record { switch = switch; store = store; opens = opens; waiting = w }
 
 -- ---- the start
 
@@ -33,20 +47,28 @@ use Rattle.protocol.specs.Delivery.{deliveredMessage}
 unfoldable pub startRefused : ℕ → Bool
 startRefused n = cond (eqb n 0) true (ltb limits.replicas n)
 
--- 'start with n replicas'
-unfoldable pub startState : ℕ → State
-startState n = record { switch = newSwitch 1; chain = newChain n; last = 0 }
+unfoldable pub startAnswer : ℕ → Answer
+startAnswer n = cond (startRefused n) (Refused Replicas) Done
 
--- its answer, with the state that it gives, and no packet waiting; after a refusal nothing holds of those
-unfoldable pub startAnswer : ℕ → Stepped
-startAnswer n = record { answer = cond (startRefused n) (Refused Replicas) Done; state = startState n; count = 0 }
+-- 'An empty store is the state that an accepted start gives, with no packet waiting', whatever the lent places hold
+unfoldable pub started : ℕ → List Packet → Machine
+started n row = machine (newSwitch 1) (emptyStore n) noneOpen (noneWait row)
 
--- the lent buffers after it
+-- 'start with n replicas': what each part then is. A refused one leaves everything as it was
+unfoldable pub startSwitch : ℕ → List ℕ → List ℕ
+startSwitch n w = cond (startRefused n) w (newSwitch 1)
+
 unfoldable pub startStore : ℕ → List ℕ → List ℕ
-startStore n store = cond (startRefused n) store emptyStore
+startStore n s = cond (startRefused n) s (emptyStore n)
 
 unfoldable pub startOpens : ℕ → List ℕ → List ℕ
 startOpens n opens = cond (startRefused n) opens noneOpen
+
+unfoldable pub startWaiting : ℕ → WaitingList → WaitingList
+startWaiting n w = cond (startRefused n) w (noneWait (w .packets))
+
+abbrev pub afterStart : ℕ → Machine → Machine
+afterStart n m = machine (startSwitch n (m .switch)) (startStore n (m .store)) (startOpens n (m .opens)) (startWaiting n (m .waiting))
 
 -- ---- the steps
 
@@ -55,73 +77,61 @@ unfoldable pub asking : Bool → ℕ → ℕ → ℕ → Message
 asking isWrite o x v = cond isWrite (UnstampedWrite o x v) (SwitchRead o x)
 
 -- the next operation number is given, it is open, and 'one packet to the switch'. Order of refusals: 3, 4, 5, 6
-unfoldable pub begun : State → List ℕ → ℕ → Bool → ℕ → ℕ → Opened
-begun s opens held isWrite x v =
-    cond (leb limits.objects x) (record { decision = refusing s ObjectNumber; opens = opens })
-    (cond (leb limits.lastOperation (s .last)) (record { decision = refusing s OperationsUsedUp; opens = opens })
-    (cond (hasRoom opens)
-    (cond (overfull held 0 1) (record { decision = refusing s WaitingFull; opens = opens })
-    (record {
-      decision = decide (record { switch = s .switch; chain = s .chain; last = s .last + 1 }) (addOne (packetOf (asking isWrite (s .last + 1) x v)));
-      opens = opening opens (s .last + 1);
-    }))
-    (record { decision = refusing s OpenFull; opens = opens })))
+unfoldable pub beginOperation : List ℕ → ℕ → Bool → ℕ → ℕ → Opened
+beginOperation opens held isWrite x v =
+    cond (leb limits.objects x) (opened (refusing ObjectNumber) opens)
+    (cond (leb limits.lastOperation (lastGiven opens)) (opened (refusing OperationsUsedUp) opens)
+    (cond (roomToOpen opens)
+    (cond (overfull held 0 1) (opened (refusing WaitingFull) opens)
+    (opened (deciding (addOne (packetOf (asking isWrite (lastGiven opens + 1) x v)))) (opening opens (lastGiven opens + 1))))
+    (opened (refusing OpenFull) opens)))
 
--- deliver: 7, then what the packet asks
+-- deliver: 7, then what the packet asks. In a state that no run reaches a packet may name an object that there is not: it is dropped
 unfoldable pub delivered : Given → Packet → ℕ → ℕ → Outcome
 delivered g p at choice =
-    cond (leb (g .held) at) (keeping g (refusing (g .state) NoPacket)) (deliveredMessage g at choice (messageOf p))
+    cond (leb (g .held) at) (keeping g (refusing NoPacket))
+    (cond (leb limits.objects (p .object)) (keeping g (dropping at)) (deliveredMessage g at choice (messageOf p)))
 
 -- 'lose the packet at a position'
-unfoldable pub lost : State → ℕ → ℕ → Decision
-lost s held at = cond (leb held at) (refusing s NoPacket) (dropping s at)
+unfoldable pub lost : ℕ → ℕ → Decision
+lost held at = cond (leb held at) (refusing NoPacket) (dropping at)
 
 -- 'repeat it: a copy at the end of the list'. Order: 7, 8, 6
-unfoldable pub repeated : State → ℕ → Packet → ℕ → Decision
-repeated s held p at =
-    cond (leb held at) (refusing s NoPacket)
-    (cond (isUnstamped p) (refusing s UnstampedRepeat) (cond (overfull held 0 1) (refusing s WaitingFull) (decide s (addOne p))))
-
-abbrev pub applyingOldest : State → List ℕ → ℕ → Edit → Stored
-applyingOldest s store r e = record {
-  decision = decide (withChain s (advanced (world (s .chain) store) r .chain)) e;
-  store = advanced (world (s .chain) store) r .store;
-}
+unfoldable pub repeated : ℕ → Packet → ℕ → Decision
+repeated held p at =
+    cond (leb held at) (refusing NoPacket)
+    (cond (isUnstamped p) (refusing UnstampedRepeat) (cond (overfull held 0 1) (refusing WaitingFull) (deciding (addOne p))))
 
 -- what the tail sends for a write
 abbrev pub sending : Write → Edit
 sending w = addTwo (packetOf (Reply (w .operation) (w .value))) (packetOf (Completion (w .object) (w .stamp)))
 
 -- 'this replica applies the oldest write of its incoming link, and passes it on unless it is the tail'. Order: 9, 10, 6
-unfoldable pub advancing : State → List ℕ → ℕ → ℕ → Stored
-advancing s store held r =
-    cond (isLive (s .chain) r)
-    (cond (eqb (pending (s .chain) r) 0) (record { decision = refusing s NoLinkedWrite; store = store })
-    (cond (eqb r (tailOf (s .chain)))
-    (cond (overfull held 0 2) (record { decision = refusing s WaitingFull; store = store })
-    (applyingOldest s store r (sending (oldest (world (s .chain) store) r))))
-    (applyingOldest s store r noEdit)))
-    (record { decision = refusing s NotLive; store = store })
+unfoldable pub advancing : List ℕ → ℕ → ℕ → Stored
+advancing s held r =
+    cond (isLive s r)
+    (cond (eqb (pending s r) 0) (stored (refusing NoLinkedWrite) s)
+    (cond (eqb r (tailOf s))
+    (cond (overfull held 0 2) (stored (refusing WaitingFull) s) (stored (deciding (sending (oldest s r))) (applying s r (oldest s r))))
+    (stored (deciding noEdit) (applying s r (oldest s r)))))
+    (stored (refusing NotLive) s)
 
 -- 'replace the switch by this number'; 11 if it is not above the present one
-unfoldable pub replaced : State → ℕ → Decision
-replaced s number = cond (leb number (s .switch .number)) (refusing s SwitchNumber) (decide (withSwitch s (newSwitch number)) noEdit)
+unfoldable pub replacing : List ℕ → ℕ → Switched
+replacing w number = cond (leb number (numberIn w)) (switched (refusing SwitchNumber) w) (switched (deciding noEdit) (newSwitch number))
 
 -- 'tell this replica to permit the present switch'
-unfoldable pub told : State → ℕ → Decision
-told s r = cond (isLive (s .chain) r) (decide (withChain s (permitting (s .chain) r (s .switch .number))) noEdit) (refusing s NotLive)
+unfoldable pub telling : List ℕ → List ℕ → ℕ → Stored
+telling w s r = cond (isLive s r) (stored (deciding noEdit) (permitting s r (numberIn w))) (stored (refusing NotLive) s)
 
 -- 'remove this replica'. Order: 9, 12
-unfoldable pub removing : State → ℕ → Decision
+unfoldable pub removing : List ℕ → ℕ → Stored
 removing s r =
-    cond (isLive (s .chain) r)
-    (cond (leb (liveCount (s .chain)) 1) (refusing s LastReplica) (decide (withChain s (removed (s .chain) r)) noEdit))
-    (refusing s NotLive)
+    cond (isLive s r) (cond (leb (liveCount s) 1) (stored (refusing LastReplica) s) (stored (deciding noEdit) (removed s r))) (stored (refusing NotLive) s)
 
 -- 'give up this operation; it stays unfinished for good'
-unfoldable pub givenUp : State → List ℕ → ℕ → Opened
-givenUp s opens o =
-    cond (isOpen opens o) (record { decision = decide s noEdit; opens = closing opens o }) (record { decision = refusing s NotOpen; opens = opens })
+unfoldable pub givingUp : List ℕ → ℕ → Opened
+givingUp opens o = cond (isOpen opens o) (opened (deciding noEdit) (closing opens o)) (opened (refusing NotOpen) opens)
 
 -- ---- every step
 
@@ -141,33 +151,43 @@ positionOf (GiveUp o) = 0
 
 -- the decision of a step; p is the packet at its position. A start that comes as a step is refused
 unfoldable pub decided : Given → Packet → Step → Outcome
-decided g p (Start n) = keeping g (refusing (g .state) Format)
-decided g p (BeginRead x) = keepingStore g (begun (g .state) (g .opens) (g .held) false x 0)
-decided g p (BeginWrite x v) = keepingStore g (begun (g .state) (g .opens) (g .held) true x v)
+decided g p (Start n) = keeping g (refusing Format)
+decided g p (BeginRead x) = changingOpens g (beginOperation (g .opens) (g .held) false x 0)
+decided g p (BeginWrite x v) = changingOpens g (beginOperation (g .opens) (g .held) true x v)
 decided g p (Deliver at choice) = delivered g p at choice
-decided g p (Lose at) = keeping g (lost (g .state) (g .held) at)
-decided g p (Repeat at) = keeping g (repeated (g .state) (g .held) p at)
-decided g p (Advance r) = keepingOpens g (advancing (g .state) (g .store) (g .held) r)
-decided g p (Replace number) = keeping g (replaced (g .state) number)
-decided g p (Tell r) = keeping g (told (g .state) r)
-decided g p (Remove r) = keeping g (removing (g .state) r)
-decided g p (GiveUp o) = keepingStore g (givenUp (g .state) (g .opens) o)
+decided g p (Lose at) = keeping g (lost (g .held) at)
+decided g p (Repeat at) = keeping g (repeated (g .held) p at)
+decided g p (Advance r) = changingStore g (advancing (g .store) (g .held) r)
+decided g p (Replace number) = changingSwitch g (replacing (g .switch) number)
+decided g p (Tell r) = changingStore g (telling (g .switch) (g .store) r)
+decided g p (Remove r) = changingStore g (removing (g .store) r)
+decided g p (GiveUp o) = changingOpens g (givingUp (g .opens) o)
 
--- the whole machine: the state, the two lent buffers, and the waiting list
-pub record Machine : Type 0 where
-  pub state : State
-  pub store : List ℕ
-  pub opens : List ℕ
-  pub waiting : WaitingList
+-- a step that is none: 1, before anything else
+unfoldable pub isMalformed : Step → Bool
+isMalformed (Start n) = true
+isMalformed (BeginRead x) = false
+isMalformed (BeginWrite x v) = false
+isMalformed (Deliver at choice) = false
+isMalformed (Lose at) = false
+isMalformed (Repeat at) = false
+isMalformed (Advance r) = false
+isMalformed (Replace number) = false
+isMalformed (Tell r) = false
+isMalformed (Remove r) = false
+isMalformed (GiveUp o) = false
 
-abbrev pub machine : State → List ℕ → List ℕ → WaitingList → Machine
-machine s store opens w = record { state = s; store = store; opens = opens; waiting = w }
+-- then 15, where fewer than 64 places are lent for the packets; then the step itself
+unfoldable pub decidedIn : ℕ → Given → Packet → Step → Outcome
+decidedIn places g p x =
+    cond (isMalformed x) (keeping g (refusing Format))
+    (cond (ltb places limits.waiting) (keeping g (refusing BufferTooShort)) (decided g p x))
 
 abbrev pub givenBy : Machine → Given
-givenBy m = given (m .state) (m .store) (m .opens) (held (m .waiting))
+givenBy m = given (m .switch) (m .store) (m .opens) (held (m .waiting))
 
 abbrev pub outcomeOf : Machine → Step → Outcome
-outcomeOf m x = decided (givenBy m) (lookAt (m .waiting) (positionOf x)) x
+outcomeOf m x = decidedIn (length (m .waiting .packets)) (givenBy m) (lookAt (m .waiting .packets) (positionOf x)) x
 
 -- the answer of a step, and the machine after it
 unfoldable pub answerTo : Machine → Step → Answer
@@ -175,16 +195,12 @@ answerTo m x = outcomeOf m x .decision .answer
 
 unfoldable pub after : Machine → Step → Machine
 after m x = record {
-  state = outcomeOf m x .decision .state;
+  switch = outcomeOf m x .switch;
   store = outcomeOf m x .store;
   opens = outcomeOf m x .opens;
   waiting = edited (m .waiting) (outcomeOf m x .decision .edit);
 }
 
--- what a step hands back: its answer, and the state and the count that it leaves
+-- what a step hands back: its answer, how many packets then wait, and 'counting marks (counted over the slots)'
 abbrev pub steppedBy : Machine → Step → Stepped
-steppedBy m x = record { answer = answerTo m x; state = after m x .state; count = after m x .waiting .count }
-
--- 'An empty store is the state that an accepted start gives, with no packet waiting', whatever the lent places hold
-unfoldable pub started : ℕ → List Packet → Machine
-started n row = record { state = startState n; store = emptyStore; opens = noneOpen; waiting = noneWait row }
+steppedBy m x = record { answer = answerTo m x; count = after m x .waiting .count; marks = countedMarks (after m x .switch) }

@@ -1,13 +1,15 @@
-// What the step machine is handed, what it keeps, and what it answers: types alone. specs/ says what each step does.
+// What the step machine is handed, what it answers, and what it decides between: types, the packets that hold messages, and the commonest decisions.
+// specs/ says what each step does.
+pub mod decisions;
+pub mod messages;
+
 use limits::Number;
 use limits::Object;
 use limits::Operation;
 use limits::Replica;
 use limits::Stamp;
 use limits::Value;
-use replicas::Chain;
 use replicas::Write;
-use switch::Switch;
 use waiting::Edit;
 
 // Document 01, 'Steps and their records'. The fields have the widths that the records give them.
@@ -63,24 +65,15 @@ pub enum Message {
     Unknown,
 }
 
-// What goes from step to step by value; the store, the open operations and the waiting packets are lent. `last` is the last operation number given.
-#[repr(C)]
-pub struct State {
-    pub switch: Switch,
-    pub chain: Chain,
-    pub last: Operation,
-}
-
 // What is decided of a step, before the waiting list is edited.
 pub struct Decision {
     pub answer: Answer,
-    pub state: State,
     pub edit: Edit,
 }
 
-// What a step answers, the state that it leaves, and how many packets then wait.
+// What a step answers, how many packets then wait, and how many marks count.
 pub struct Stepped {
     pub answer: Answer,
-    pub state: State,
     pub count: usize,
+    pub marks: u32,
 }

@@ -1,8 +1,7 @@
--- The laws of the replicas for the crates above.
 pub mod AllOf
-pub mod ChainLaws
-pub mod Places
+pub mod Members
 pub mod Cells
+pub mod Shape
 pub mod Moves
 pub mod Descending
 pub mod Links

@@ -1,32 +1,29 @@
 -- Document 01 on links, proved of the log: removing a replica joins its two links, advancing takes the oldest write of one link and puts it
 -- last in the next, and an accepted write goes last in the head's outgoing link. A write that is applied leaves every other link as it is.
 use mathlib.Core.Path.{_≡_, refl, sym, ap, _∙_}
-use mathlib.Core.Bool.{true}
+use mathlib.Core.Bool.{Bool, true, false, cond}
 use mathlib.Core.List.{List, [], _∷_, _++_}
 use Prim.Native.Nat.{ℕ, zero, suc, _+_, _-_, _≤_, _<_}
 use native.Mathlib.Nat.{zero-add, suc-add, le-refl}
 use native.Mathlib.Decide.{ℕ-discrete, decLt}
 use native.Mathlib.Omega.{arith}
-use lib.ListN.{drop}
-use borrow.Author.Tests.{lt-ltb}
+use lib.ListN.{length, drop}
 use Rattle.limits.specs as limits
-use Rattle.replicas.specs.declared.Chain.{Chain}
 use Rattle.replicas.specs.declared.Write.{Write}
-use Rattle.replicas.specs.Chain.{members, liveCount, placeOf, isLive, memberAt, headOf, rowOf, appliedBy, removed}
-use Rattle.replicas.specs.Store.{entryAt, written, logged}
-use Rattle.replicas.specs.Replicas.{World, world, linkedWrites, accepts, applying, received, pending, oldest, advanced}
-use Rattle.replicas.specs.Links.{entries, linkInto, nextOf}
-use Rattle.replicas.proofs.ChainLaws.{Sized, place-at, place-found, in-live, member-in, applied-applying-same, applied-applying-other}
-use Rattle.replicas.proofs.ChainLaws.{applied-removed, count-removed, member-removed-before, member-removed-behind, head-is, tail-is}
-use Rattle.replicas.proofs.ChainLaws.{place-below, place-same, members-applying}
-use Rattle.replicas.proofs.Cells.{SizedStore, entry-written, entry-logged-same, entry-logged-other, positions-apart}
-use Rattle.replicas.proofs.Moves.{accepts-live, accepts-room, received-taken, pending-live, pending-after, pending-behind, pending-head}
-use Rattle.replicas.proofs.Moves.{advanced-taken}
-use Rattle.replicas.proofs.Descending.{Descending, place-is, rows-apart, places-apart, falls-to, before-apart, own-lags, descending-removed}
+use Rattle.replicas.specs.Store.{liveCount, rowOf, appliedBy, entryAt, logged}
+use Rattle.replicas.specs.Chain.{chainPlace, isLive, memberAt, headOf, tailOf, removed}
+use Rattle.replicas.specs.Replicas.{linkedWrites, accepts, applying, taking, pending, oldest}
+use Rattle.replicas.specs.Links.{entries, linkInto, successorOf, linksTo, allLinks}
+use Rattle.replicas.proofs.Members.{head-is, tail-is, member-in, in-live, place-below, below-live, place-at, place-found, count-same, member-same, place-same, live-same}
+use Rattle.replicas.proofs.Cells.{SizedStore, members-applying, entry-applying, applied-applying-same, applied-applying-other}
+use Rattle.replicas.proofs.Cells.{members-logged, applied-logged, sized-logged, entry-logged-same, entry-logged-other, positions-apart, applied-removed, entry-removed}
+use Rattle.replicas.proofs.Shape.{count-removed, member-removed-before, member-removed-behind}
+use Rattle.replicas.proofs.Moves.{accepts-live, accepts-room, accepts-position, pending-after, pending-behind, pending-head}
+use Rattle.replicas.proofs.Descending.{Descending, place-is, rows-apart, places-apart, falls-to, before-apart, own-lags, pending-short, descending-removed, descending-logged}
 
--- ---- runs of the log
+-- ---- stretches of the log
 
--- a run in two parts
+-- one in two parts
 entries-append : (s : List ℕ) (p m n : ℕ) → entries s p (m + n) ≡ entries s p m ++ entries s (p + m) n
 unfolding entries
 entries-append s p zero n = rw zero-add (ap (λ (q : ℕ). entries s q n) (omega arith))
@@ -40,119 +37,14 @@ entries-more : (s : List ℕ) (p k : ℕ) → entries s p (k + 1) ≡ entries s 
 unfolding entries
 entries-more s p k = entries-append s p k 1
 
--- two logs that agree at a run's positions
+-- two logs that agree at the positions
 entries-same : (s t : List ℕ) (p k : ℕ) → ((q : ℕ) → p ≤ q → q < p + k → entryAt s q ≡ entryAt t q) → entries s p k ≡ entries t p k
 unfolding entries
 entries-same s t p zero e = refl
 entries-same s t p (suc k) e =
     λ j. e p (omega arith) (omega arith) j ∷ entries-same s t (p + 1) k (λ q a b. e q (omega arith) (omega arith)) j
 
--- ---- the chain
-
--- a replica that is live and is not the tail
-abbrev pub HasNext : Chain → ℕ → Type 0
-HasNext c r = placeOf c r + 1 < liveCount c
-
--- a write applied changes nothing of the chain's shape
-pending-applying : (c : Chain) (q r stamp : ℕ) → isLive c q ≡ true → 0 < placeOf c q →
-    pending (applying c r stamp) q ≡ appliedBy (applying c r stamp) (memberAt c (placeOf c q - 1)) - appliedBy (applying c r stamp) q
-unfolding placeOf isLive liveCount memberAt members applying
-pending-applying c q r stamp e h = pending-behind (applying c r stamp) q e h
-
--- ---- a replica and the next one
-
-module _ (c : Chain) (r : ℕ) (g : Descending c) (h : HasNext c r) where
-  is-live : isLive c r ≡ true
-  unfolding isLive
-  is-live = lt-ltb (placeOf c r) (liveCount c) (omega arith)
-
-  next-live : isLive c (nextOf c r) ≡ true
-  unfolding nextOf
-  next-live = in-live c (memberAt c (placeOf c r + 1)) (member-in c (placeOf c r + 1) h)
-
-  next-place : placeOf c (nextOf c r) ≡ placeOf c r + 1
-  unfolding nextOf
-  next-place = place-is c (placeOf c r + 1) g h
-
-  -- the one before the next is this one
-  before-next : memberAt c (placeOf c (nextOf c r) - 1) ≡ r
-  before-next =
-      let back : placeOf c (nextOf c r) - 1 ≡ placeOf c r = omega (arith, next-place) in
-      ap (memberAt c) back ∙ place-at c r is-live
-
-  next-apart : rowOf (nextOf c r) ≡ rowOf r → ⊥
-  unfolding nextOf
-  next-apart e =
-      rows-apart c (placeOf c r + 1) (placeOf c r) g h (omega arith) (λ z. omega arith) (rw (place-at c r is-live) e)
-
-  next-lags : appliedBy c (nextOf c r) ≤ appliedBy c r
-  unfolding nextOf
-  next-lags = rw (place-at c r is-live) at (g .falls (placeOf c r) h)
-
-  next-pending : pending c (nextOf c r) ≡ appliedBy c r - appliedBy c (nextOf c r)
-  next-pending = rw before-next at (pending-behind c (nextOf c r) next-live (omega (arith, next-place)))
-
-  -- this one applies a write: the next one has one more to come
-  module _ (stamp : ℕ) (z : Sized c) where
-    next-kept : appliedBy (applying c r stamp) (nextOf c r) ≡ appliedBy c (nextOf c r)
-    next-kept = applied-applying-other c (nextOf c r) r stamp next-apart
-
-    next-grows : pending (applying c r stamp) (nextOf c r) ≡ pending c (nextOf c r) + 1
-    next-grows =
-        let now : pending (applying c r stamp) (nextOf c r) ≡ appliedBy (applying c r stamp) r - appliedBy (applying c r stamp) (nextOf c r) =
-        rw before-next at (pending-applying c (nextOf c r) r stamp next-live (omega (arith, next-place))) in
-        omega (arith, now, next-kept, next-pending, next-lags, applied-applying-same c r stamp z)
-
--- ---- a removal
-
-module _ (c : Chain) (r : ℕ) (g : Descending c) (h : HasNext c r) where
-  -- the next one moves up one place
-  moved-place : placeOf (removed c r) (nextOf c r) ≡ placeOf c r
-  unfolding nextOf
-  moved-place =
-      let live = is-live c r g h in
-      place-found (removed c r) (placeOf c r) (nextOf c r) (omega (arith, count-removed c r live))
-      (λ k b e.
-      let same : k ≡ placeOf c r + 1 =
-      g .distinct k (placeOf c r + 1) (omega arith) h (sym (member-removed-before c r k live b) ∙ e) in
-      omega arith)
-      (member-removed-behind c r (placeOf c r) live (le-refl (placeOf c r)))
-
-  moved-live : isLive (removed c r) (nextOf c r) ≡ true
-  unfolding isLive
-  moved-live =
-      lt-ltb (placeOf (removed c r) (nextOf c r)) (liveCount (removed c r))
-      (omega (arith, moved-place, count-removed c r (is-live c r g h)))
-
-  -- 'Removing the head loses its outgoing link': the next one, now the head, has nothing to come
-  pub removed-head : placeOf c r ≡ 0 → pending (removed c r) (nextOf c r) ≡ 0
-  removed-head e = pending-head (removed c r) (nextOf c r) (moved-place ∙ e)
-
-  -- removing one between: what the two links held
-  moved-pending : 0 < placeOf c r → pending (removed c r) (nextOf c r) ≡ pending c (nextOf c r) + pending c r
-  moved-pending b =
-      let live = is-live c r g h in
-      let before : memberAt (removed c r) (placeOf (removed c r) (nextOf c r) - 1) ≡ memberAt c (placeOf c r - 1) =
-      ap (λ (p : ℕ). memberAt (removed c r) (p - 1)) moved-place ∙ member-removed-before c r (placeOf c r - 1) live (omega arith) in
-      let now : pending (removed c r) (nextOf c r) ≡ appliedBy c (memberAt c (placeOf c r - 1)) - appliedBy c (nextOf c r) =
-      simp (before, applied-removed) at (pending-behind (removed c r) (nextOf c r) moved-live (omega (arith, moved-place))) in
-      omega (arith, now, next-pending c r g h, next-lags c r g h, pending-behind c r live b, own-lags c r g live b)
-
--- 'Removing one between joins its two links, the outgoing link's writes first.'
-pub removed-joins : (u : World) (r : ℕ) → Descending (u .chain) → 0 < placeOf (u .chain) r → HasNext (u .chain) r →
-    linkInto (world (removed (u .chain) r) (u .store)) (nextOf (u .chain) r) ≡ linkInto u (nextOf (u .chain) r) ++ linkInto u r
-unfolding linkInto
-removed-joins u r g b h =
-    let c = u .chain in
-    let next = nextOf c r in
-    let seam : appliedBy c next + pending c next ≡ appliedBy c r = omega (arith, next-pending c r g h, next-lags c r g h) in
-    rw (applied-removed c next r, moved-pending c r g h b)
-    (entries-append (u .store) (appliedBy c next) (pending c next) (pending c r) ∙
-    ap (λ (p : ℕ). entries (u .store) (appliedBy c next) (pending c next) ++ entries (u .store) p (pending c r)) seam)
-
--- ---- a replica that applies the oldest write of its incoming link
-
--- a run without its oldest write
+-- without its oldest write
 entries-rest : (s : List ℕ) (p k : ℕ) → 0 < k → drop 1 (entries s p k) ≡ entries s (p + 1) (k - 1)
 unfolding entries
 entries-rest s p zero h = absurd (omega arith)
@@ -160,196 +52,408 @@ entries-rest s p (suc k) h =
     let same : k ≡ suc k - 1 = omega arith in
     ap (entries s (p + 1)) same
 
--- the tables lie beside the log
-entries-written : (s : List ℕ) (r : ℕ) (w : Write) (p k : ℕ) → entries (written s r w) p k ≡ entries s p k
-entries-written s r w p k = entries-same (written s r w) s p k (λ q a b. entry-written s r w q)
+entries-length : (s : List ℕ) (p k : ℕ) → length (entries s p k) ≡ k
+unfolding entries
+entries-length s p zero = refl
+entries-length s p (suc k) = ap suc (entries-length s (p + 1) k)
 
-module _ (u : World) (r : ℕ) (g : Descending (u .chain)) (z : Sized (u .chain)) (w : 0 < pending (u .chain) r) where
-  own-place : 0 < placeOf (u .chain) r
-  own-place = pending-after (u .chain) r w
+-- ---- links
 
-  own-shrinks : (stamp : ℕ) → pending (applying (u .chain) r stamp) r ≡ pending (u .chain) r - 1
-  own-shrinks stamp =
-      let c = u .chain in
-      let live = pending-live c r w in
-      let kept : appliedBy (applying c r stamp) (memberAt c (placeOf c r - 1)) ≡ appliedBy c (memberAt c (placeOf c r - 1)) =
-      applied-applying-other c (memberAt c (placeOf c r - 1)) r stamp (before-apart c r g live own-place) in
+pub link-live : (s : List ℕ) (r : ℕ) → isLive s r ≡ true → linkInto s r ≡ entries s (appliedBy s r) (pending s r)
+unfolding linkInto
+link-live s r e = rw e
+
+pub link-gone : (s : List ℕ) (r : ℕ) → isLive s r ≡ false → linkInto s r ≡ []
+unfolding linkInto
+link-gone s r e = rw e
+
+-- a live replica's link is told by where it begins, how much it holds and the entries there
+link-is : (s t : List ℕ) (r : ℕ) → isLive s r ≡ true → isLive t r ≡ true → appliedBy t r ≡ appliedBy s r → pending t r ≡ pending s r →
+    ((q : ℕ) → appliedBy s r ≤ q → q < appliedBy s r + pending s r → entryAt t q ≡ entryAt s q) → linkInto t r ≡ linkInto s r
+link-is s t r e f a p same =
+    link-live t r f ∙ rw (a, p) (entries-same t s (appliedBy s r) (pending s r) same) ∙ sym (link-live s r e)
+
+-- a replica that is live and is not the tail
+abbrev pub HasNext : List ℕ → ℕ → Type 0
+HasNext s r = chainPlace s r + 1 < liveCount s
+
+-- a write applied changes nothing of the chain's shape
+pending-applying : (s : List ℕ) (q r : ℕ) (w : Write) → 0 < chainPlace s q →
+    pending (applying s r w) q ≡ appliedBy (applying s r w) (memberAt s (chainPlace s q - 1)) - appliedBy (applying s r w) q
+pending-applying s q r w h =
+    let same = members-applying s r w in
+    rw (place-same (applying s r w) s same q, member-same (applying s r w) s same (chainPlace s q - 1)) at
+    (pending-behind (applying s r w) q (rw (place-same (applying s r w) s same q) h))
+
+-- ---- a replica and the next one
+
+module _ (s : List ℕ) (r : ℕ) (g : Descending s) (h : HasNext s r) where
+  is-live : isLive s r ≡ true
+  is-live = below-live s r (omega arith)
+
+  next-live : isLive s (successorOf s r) ≡ true
+  unfolding successorOf
+  next-live = in-live s (memberAt s (chainPlace s r + 1)) (member-in s (chainPlace s r + 1) h)
+
+  next-place : chainPlace s (successorOf s r) ≡ chainPlace s r + 1
+  unfolding successorOf
+  next-place = place-is s (chainPlace s r + 1) g h
+
+  -- the one before the next is this one
+  before-next : memberAt s (chainPlace s (successorOf s r) - 1) ≡ r
+  before-next =
+      let back : chainPlace s (successorOf s r) - 1 ≡ chainPlace s r = omega (arith, next-place) in
+      ap (memberAt s) back ∙ place-at s r is-live
+
+  next-apart : rowOf (successorOf s r) ≡ rowOf r → ⊥
+  unfolding successorOf
+  next-apart e =
+      rows-apart s (chainPlace s r + 1) (chainPlace s r) g h (omega arith) (λ z. omega arith) (rw (place-at s r is-live) e)
+
+  next-lags : appliedBy s (successorOf s r) ≤ appliedBy s r
+  unfolding successorOf
+  next-lags = rw (place-at s r is-live) at (g .falls (chainPlace s r) h)
+
+  next-pending : pending s (successorOf s r) ≡ appliedBy s r - appliedBy s (successorOf s r)
+  next-pending = rw before-next at (pending-behind s (successorOf s r) (omega (arith, next-place)))
+
+  -- where the next one's link ends
+  seam : appliedBy s (successorOf s r) + pending s (successorOf s r) ≡ appliedBy s r
+  seam = omega (arith, next-pending, next-lags)
+
+  -- this one applies a write: the next one has one more to come
+  module _ (w : Write) (z : SizedStore s) (short : appliedBy s r < limits.lastPosition) where
+    next-kept : appliedBy (applying s r w) (successorOf s r) ≡ appliedBy s (successorOf s r)
+    next-kept = applied-applying-other s r w (successorOf s r) next-apart
+
+    next-grows : pending (applying s r w) (successorOf s r) ≡ pending s (successorOf s r) + 1
+    next-grows =
+        let now : pending (applying s r w) (successorOf s r) ≡ appliedBy (applying s r w) r - appliedBy (applying s r w) (successorOf s r) =
+        rw before-next at (pending-applying s (successorOf s r) r w (omega (arith, next-place))) in
+        omega (arith, now, next-kept, next-pending, next-lags, applied-applying-same s r w z short)
+
+    -- its link has that write last, if the log has it there
+    next-link : entryAt s (appliedBy s r) ≡ w → linkInto (applying s r w) (successorOf s r) ≡ linkInto s (successorOf s r) ++ w ∷ []
+    next-link e =
+        let next = successorOf s r in
+        link-live (applying s r w) next (live-same (applying s r w) s (members-applying s r w) next ∙ next-live) ∙
+        rw (next-kept, next-grows)
+        (entries-same (applying s r w) s (appliedBy s next) (pending s next + 1) (λ q a b. entry-applying s r w q) ∙
+        entries-more s (appliedBy s next) (pending s next) ∙
+        ap (λ (x : Write). entries s (appliedBy s next) (pending s next) ++ x ∷ []) (ap (entryAt s) seam ∙ e)) ∙
+        ap (λ (l : List Write). l ++ w ∷ []) (sym (link-live s next next-live))
+
+-- ---- a removal
+
+module _ (s : List ℕ) (r : ℕ) (g : Descending s) (z : SizedStore s) (h : HasNext s r) where
+  -- the next one moves up one place
+  moved-place : chainPlace (removed s r) (successorOf s r) ≡ chainPlace s r
+  unfolding successorOf
+  moved-place =
+      let live = is-live s r g h in
+      place-found (removed s r) (chainPlace s r) (successorOf s r) (omega (arith, count-removed s r z live))
+      (λ k b e.
+      let same : k ≡ chainPlace s r + 1 =
+      g .distinct k (chainPlace s r + 1) (omega arith) h (sym (member-removed-before s r z live k b) ∙ e) in
+      omega arith)
+      (member-removed-behind s r z live (chainPlace s r) (le-refl (chainPlace s r)))
+
+  moved-live : isLive (removed s r) (successorOf s r) ≡ true
+  moved-live = below-live (removed s r) (successorOf s r) (omega (arith, moved-place, count-removed s r z (is-live s r g h)))
+
+  -- 'Removing the head loses its outgoing link': the next one, now the head, has nothing to come
+  pub removed-head : chainPlace s r ≡ 0 → linkInto (removed s r) (successorOf s r) ≡ []
+  unfolding entries
+  removed-head e =
+      link-live (removed s r) (successorOf s r) moved-live ∙
+      ap (entries (removed s r) (appliedBy (removed s r) (successorOf s r))) (pending-head (removed s r) (successorOf s r) (moved-place ∙ e))
+
+  -- removing one between: what the two links held
+  moved-pending : 0 < chainPlace s r → pending (removed s r) (successorOf s r) ≡ pending s (successorOf s r) + pending s r
+  moved-pending b =
+      let live = is-live s r g h in
+      let before : memberAt (removed s r) (chainPlace (removed s r) (successorOf s r) - 1) ≡ memberAt s (chainPlace s r - 1) =
+      ap (λ (p : ℕ). memberAt (removed s r) (p - 1)) moved-place ∙ member-removed-before s r z live (chainPlace s r - 1) (omega arith) in
+      let now : pending (removed s r) (successorOf s r) ≡ appliedBy s (memberAt s (chainPlace s r - 1)) - appliedBy s (successorOf s r) =
+      simp (before, applied-removed) at (pending-behind (removed s r) (successorOf s r) (omega (arith, moved-place))) in
+      omega (arith, now, next-pending s r g h, next-lags s r g h, pending-behind s r b, own-lags s r g live b)
+
+  -- 'Removing one between joins its two links, the outgoing link's writes first.'
+  pub removed-joins : 0 < chainPlace s r → linkInto (removed s r) (successorOf s r) ≡ linkInto s (successorOf s r) ++ linkInto s r
+  removed-joins b =
+      let next = successorOf s r in
+      link-live (removed s r) next moved-live ∙
+      rw (applied-removed s r next, moved-pending b)
+      (entries-same (removed s r) s (appliedBy s next) (pending s next + pending s r) (λ q c d. entry-removed s r q) ∙
+      entries-append s (appliedBy s next) (pending s next) (pending s r) ∙
+      ap (λ (p : ℕ). entries s (appliedBy s next) (pending s next) ++ entries s p (pending s r)) (seam s r g h)) ∙
+      λ j. sym (link-live s next (next-live s r g h)) j ++ sym (link-live s r (is-live s r g h)) j
+
+-- the removed replica itself is gone, and its incoming link with it: 'removing the tail empties its incoming link'
+pub removed-itself : (s : List ℕ) (r : ℕ) → Descending s → SizedStore s → isLive s r ≡ true → linkInto (removed s r) r ≡ []
+removed-itself s r g z e = link-gone (removed s r) r (go (isLive (removed s r) r) refl)
+  where
+    at-own : (k : ℕ) → k < liveCount s → memberAt s k ≡ r → k ≡ chainPlace s r
+    at-own k h q = g .distinct k (chainPlace s r) h (place-below s r e) (q ∙ sym (place-at s r e))
+
+    absent : (p : ℕ) → p < liveCount (removed s r) → memberAt (removed s r) p ≡ r → ⊥
+    absent p h q =
+        elim (decLt p (chainPlace s r)) [
+          | yes b ↦ omega (
+            arith,
+            at-own p (omega (arith, place-below s r e)) (sym (member-removed-before s r z e p b) ∙ q),
+          )
+          | no b ↦ omega (
+            arith,
+            b,
+            at-own (p + 1) (omega (arith, count-removed s r z e)) (sym (member-removed-behind s r z e p (omega arith)) ∙ q),
+          )
+        ]
+
+    go : (t : Bool) → isLive (removed s r) r ≡ t → isLive (removed s r) r ≡ false
+    go true f = absurd (absent (chainPlace (removed s r) r) (place-below (removed s r) r f) (place-at (removed s r) r f))
+    go false f = f
+
+-- ---- a replica that applies the oldest write of its incoming link
+
+module _ (s : List ℕ) (r : ℕ) (g : Descending s) (z : SizedStore s) (e : isLive s r ≡ true) (w : 0 < pending s r) where
+  abbrev next-state : List ℕ
+  next-state = applying s r (oldest s r)
+
+  own-shrinks : pending (applying s r (oldest s r)) r ≡ pending s r - 1
+  own-shrinks =
+      let after = pending-after s r w in
+      let kept : appliedBy (applying s r (oldest s r)) (memberAt s (chainPlace s r - 1)) ≡ appliedBy s (memberAt s (chainPlace s r - 1)) =
+      applied-applying-other s r (oldest s r) (memberAt s (chainPlace s r - 1)) (before-apart s r g e after) in
       omega (
         arith,
         kept,
-        pending-applying c r r stamp live own-place,
-        applied-applying-same c r stamp z,
-        pending-behind c r live own-place,
+        pending-applying s r r (oldest s r) after,
+        applied-applying-same s r (oldest s r) z (pending-short s r g e w),
+        pending-behind s r after,
       )
 
   -- 'this replica applies the oldest write of its incoming link'
-  pub advanced-link : linkInto (advanced u r) r ≡ drop 1 (linkInto u r)
-  unfolding linkInto
+  pub advanced-link : linkInto (applying s r (oldest s r)) r ≡ drop 1 (linkInto s r)
   advanced-link =
-      let c = u .chain in
-      let stamp = oldest u r .stamp in
-      ap (λ (v : World). linkInto v r) (advanced-taken u r w) ∙
-      rw (applied-applying-same c r stamp z, own-shrinks stamp)
-      (entries-written (u .store) r (oldest u r) (appliedBy c r + 1) (pending c r - 1) ∙
-      sym (entries-rest (u .store) (appliedBy c r) (pending c r) w))
+      link-live (applying s r (oldest s r)) r (live-same (applying s r (oldest s r)) s (members-applying s r (oldest s r)) r ∙ e) ∙
+      rw (applied-applying-same s r (oldest s r) z (pending-short s r g e w), own-shrinks)
+      (entries-same (applying s r (oldest s r)) s (appliedBy s r + 1) (pending s r - 1) (λ q a b. entry-applying s r (oldest s r) q) ∙
+      sym (entries-rest s (appliedBy s r) (pending s r) w)) ∙
+      ap (λ (l : List Write). drop 1 l) (sym (link-live s r e))
 
   -- 'and passes it on unless it is the tail'
-  pub advanced-next : HasNext (u .chain) r → linkInto (advanced u r) (nextOf (u .chain) r) ≡ linkInto u (nextOf (u .chain) r) ++ oldest u r ∷ []
-  unfolding linkInto oldest
-  advanced-next h =
-      let c = u .chain in
-      let next = nextOf c r in
-      let stamp = oldest u r .stamp in
-      let seam : appliedBy c next + pending c next ≡ appliedBy c r = omega (arith, next-pending c r g h, next-lags c r g h) in
-      ap (λ (v : World). linkInto v next) (advanced-taken u r w) ∙
-      rw (next-kept c r g h stamp z, next-grows c r g h stamp z)
-      (entries-written (u .store) r (oldest u r) (appliedBy c next) (pending c next + 1) ∙
-      entries-more (u .store) (appliedBy c next) (pending c next) ∙
-      ap (λ (p : ℕ). entries (u .store) (appliedBy c next) (pending c next) ++ entryAt (u .store) p ∷ []) seam)
+  pub advanced-next : HasNext s r → linkInto (applying s r (oldest s r)) (successorOf s r) ≡ linkInto s (successorOf s r) ++ oldest s r ∷ []
+  unfolding oldest
+  advanced-next h = next-link s r g h (oldest s r) z (pending-short s r g e w) refl
 
 -- ---- an accepted write
 
 -- every live replica has applied all but fewer than 64 of the head's writes
-recent : (c : Chain) (q r : ℕ) → Descending c → isLive c q ≡ true → isLive c r ≡ true → placeOf c r ≡ 0 → linkedWrites c < limits.linked →
-    appliedBy c r < appliedBy c q + limits.linked
+recent : (s : List ℕ) (q r : ℕ) → Descending s → isLive s q ≡ true → isLive s r ≡ true → chainPlace s r ≡ 0 → linkedWrites s < limits.linked →
+    appliedBy s r < appliedBy s q + limits.linked
 unfolding linkedWrites
-recent c q r g f e z b =
-    let first : headOf c ≡ r = head-is c ∙ ap (memberAt c) (sym z) ∙ place-at c r e in
-    let last : appliedBy c (memberAt c (liveCount c - 1)) ≤ appliedBy c (memberAt c (placeOf c q)) =
-    falls-to c (placeOf c q) (liveCount c - 1) g (omega (arith, place-below c q f)) (omega (arith, place-below c q f)) in
-    let room : appliedBy c r - appliedBy c (memberAt c (liveCount c - 1)) < limits.linked = rw (first, tail-is c) at b in
-    omega (arith, room, rw (place-at c q f) at last)
+recent s q r g f e z b =
+    let first : headOf s ≡ r = head-is s ∙ ap (memberAt s) (sym z) ∙ place-at s r e in
+    let last : appliedBy s (memberAt s (liveCount s - 1)) ≤ appliedBy s (memberAt s (chainPlace s q)) =
+    falls-to s (chainPlace s q) (liveCount s - 1) g (omega (arith, place-below s q f)) (omega (arith, place-below s q f)) in
+    let room : appliedBy s r - appliedBy s (memberAt s (liveCount s - 1)) < limits.linked = rw (first, tail-is s) at b in
+    omega (arith, room, rw (place-at s q f) at last)
+
+-- what a link holds ends where the head's applied writes end
+within-head : (s : List ℕ) (q r : ℕ) → Descending s → isLive s q ≡ true → isLive s r ≡ true → chainPlace s r ≡ 0 →
+    appliedBy s q + pending s q ≤ appliedBy s r
+within-head s q r g f e z =
+    elim (ℕ-discrete (chainPlace s q) 0) [
+      | yes y ↦
+          let same : q ≡ r = sym (place-at s q f) ∙ ap (memberAt s) (y ∙ sym z) ∙ place-at s r e in
+          omega (arith, pending-head s q y, ap (appliedBy s) same)
+      | no y ↦ behind (omega (arith, y))
+    ]
+  where
+    behind : 0 < chainPlace s q → appliedBy s q + pending s q ≤ appliedBy s r
+    behind b =
+        let front : appliedBy s (memberAt s (chainPlace s q - 1)) ≤ appliedBy s (memberAt s (chainPlace s r)) =
+        falls-to s (chainPlace s r) (chainPlace s q - 1) g (omega arith) (omega (arith, place-below s q f)) in
+        omega (arith, rw (place-at s r e) at front, pending-behind s q b, own-lags s q g f b)
 
 -- so a write that comes into the log takes the cell of none that a link holds
-entries-logged : (s : List ℕ) (a : ℕ) (w : Write) (p k : ℕ) → p + k ≤ a → a < p + limits.linked → entries (logged s a w) p k ≡ entries s p k
-entries-logged s a w p k b c =
-    entries-same (logged s a w) s p k
-    (λ q from below. entry-logged-other s a q w (λ m. positions-apart q a (omega arith) (omega arith) (sym m)))
-
--- 'applied and put in the link to the next replica': at the head, last in its outgoing link
-pub received-next : (u : World) (r : ℕ) (w : Write) → Descending (u .chain) → Sized (u .chain) → SizedStore (u .store) →
-    placeOf (u .chain) r ≡ 0 → HasNext (u .chain) r → accepts (u .chain) r (w .stamp) ≡ true →
-    linkInto (received u r w) (nextOf (u .chain) r) ≡ linkInto u (nextOf (u .chain) r) ++ w ∷ []
-unfolding linkInto
-received-next u r w g z t e h a =
-    let c = u .chain in
-    let log = logged (u .store) (appliedBy c r) w in
-    let next = nextOf c r in
-    let seam : appliedBy c next + pending c next ≡ appliedBy c r = omega (arith, next-pending c r g h, next-lags c r g h) in
-    let kept : entries log (appliedBy c next) (pending c next) ≡ entries (u .store) (appliedBy c next) (pending c next) =
-    entries-logged (u .store) (appliedBy c r) w (appliedBy c next) (pending c next) (omega arith)
-    (recent c next r g (next-live c r g h) (is-live c r g h) e (accepts-room c r (w .stamp) a)) in
-    let put : entryAt log (appliedBy c next + pending c next) ≡ w =
-    ap (entryAt log) seam ∙ entry-logged-same (u .store) (appliedBy c r) w t in
-    ap (λ (v : World). linkInto v next) (received-taken u r w a) ∙
-    rw (next-kept c r g h (w .stamp) z, next-grows c r g h (w .stamp) z)
-    (entries-written log r w (appliedBy c next) (pending c next + 1) ∙
-    entries-more log (appliedBy c next) (pending c next) ∙
-    λ j. kept j ++ put j ∷ [])
+logged-link : (s : List ℕ) (q r : ℕ) (w : Write) → Descending s → isLive s q ≡ true → chainPlace s r ≡ 0 → accepts s r (w .stamp) ≡ true →
+    linkInto (logged s (appliedBy s r) w) q ≡ linkInto s q
+logged-link s q r w g f z a =
+    let e = accepts-live s r (w .stamp) a in
+    let log = logged s (appliedBy s r) w in
+    let same = members-logged s (appliedBy s r) w in
+    link-is s log q f (live-same log s same q ∙ f) (applied-logged s (appliedBy s r) w q) (pending-logged (ℕ-discrete (chainPlace s q) 0))
+    (λ p low high.
+    entry-logged-other s (appliedBy s r) w p
+    (λ m. positions-apart p (appliedBy s r) (omega (arith, within-head s q r g f e z))
+    (omega (arith, recent s q r g f e z (accepts-room s r (w .stamp) a))) (sym m)))
+  where
+    pending-logged : Dec (chainPlace s q ≡ 0) → pending (logged s (appliedBy s r) w) q ≡ pending s q
+    pending-logged (yes y) =
+        let log = logged s (appliedBy s r) w in
+        pending-head log q (place-same log s (members-logged s (appliedBy s r) w) q ∙ y) ∙ sym (pending-head s q y)
+    pending-logged (no y) =
+        let log = logged s (appliedBy s r) w in
+        let same = members-logged s (appliedBy s r) w in
+        pending-behind log q (omega (arith, place-same log s same q, y)) ∙
+        rw (place-same log s same q, member-same log s same (chainPlace s q - 1)) (λ j. applied-logged s (appliedBy s r) w (memberAt s (chainPlace s q - 1)) j - applied-logged s (appliedBy s r) w q j) ∙
+        sym (pending-behind s q (omega (arith, y)))
 
 -- ---- the other links stay as they are
 
-module _ (c : Chain) (q r : ℕ) (g : Descending c) (f : isLive c q ≡ true) (e : isLive c r ≡ true)
-    (d : placeOf c q ≡ placeOf c r → ⊥) (n : placeOf c q ≡ placeOf c r + 1 → ⊥) (stamp : ℕ) where
-  other-kept : appliedBy (applying c r stamp) q ≡ appliedBy c q
-  other-kept = applied-applying-other c q r stamp (places-apart c q r g f e d)
+module _ (s : List ℕ) (q r : ℕ) (w : Write) (g : Descending s) (f : isLive s q ≡ true) (e : isLive s r ≡ true)
+    (d : chainPlace s q ≡ chainPlace s r → ⊥) (n : chainPlace s q ≡ chainPlace s r + 1 → ⊥) where
+  other-kept : appliedBy (applying s r w) q ≡ appliedBy s q
+  other-kept = applied-applying-other s r w q (places-apart s q r g f e d)
 
-  other-pending : pending (applying c r stamp) q ≡ pending c q
+  other-pending : pending (applying s r w) q ≡ pending s q
   other-pending =
-      elim (ℕ-discrete (placeOf c q) 0) [
-        | yes z ↦ pending-head (applying c r stamp) q (place-same (applying c r stamp) c (members-applying c r stamp) q ∙ z) ∙
-            sym (pending-head c q z)
+      elim (ℕ-discrete (chainPlace s q) 0) [
+        | yes z ↦ pending-head (applying s r w) q (place-same (applying s r w) s (members-applying s r w) q ∙ z) ∙
+            sym (pending-head s q z)
         | no z ↦ behind (omega arith)
       ]
     where
-      behind : 0 < placeOf c q → pending (applying c r stamp) q ≡ pending c q
+      behind : 0 < chainPlace s q → pending (applying s r w) q ≡ pending s q
       behind b =
-          let kept : appliedBy (applying c r stamp) (memberAt c (placeOf c q - 1)) ≡ appliedBy c (memberAt c (placeOf c q - 1)) =
-          applied-applying-other c (memberAt c (placeOf c q - 1)) r stamp
-          (λ m. rows-apart c (placeOf c q - 1) (placeOf c r) g (omega (arith, place-below c q f)) (place-below c r e)
-          (λ y. n (omega arith)) (rw (place-at c r e) m)) in
-          omega (arith, kept, other-kept, pending-applying c q r stamp f b, pending-behind c q f b)
+          let kept : appliedBy (applying s r w) (memberAt s (chainPlace s q - 1)) ≡ appliedBy s (memberAt s (chainPlace s q - 1)) =
+          applied-applying-other s r w (memberAt s (chainPlace s q - 1))
+          (λ m. rows-apart s (chainPlace s q - 1) (chainPlace s r) g (omega (arith, place-below s q f)) (place-below s r e)
+          (λ y. n (omega arith)) (rw (place-at s r e) m)) in
+          omega (arith, kept, other-kept, pending-applying s q r w b, pending-behind s q b)
 
-pub advanced-others : (u : World) (q r : ℕ) → Descending (u .chain) → 0 < pending (u .chain) r → isLive (u .chain) q ≡ true →
-    (placeOf (u .chain) q ≡ placeOf (u .chain) r → ⊥) → (placeOf (u .chain) q ≡ placeOf (u .chain) r + 1 → ⊥) →
-    linkInto (advanced u r) q ≡ linkInto u q
-unfolding linkInto
-advanced-others u q r g w f d n =
-    let c = u .chain in
-    let e = pending-live c r w in
-    let stamp = oldest u r .stamp in
-    ap (λ (v : World). linkInto v q) (advanced-taken u r w) ∙
-    rw (other-kept c q r g f e d n stamp, other-pending c q r g f e d n stamp)
-    (entries-written (u .store) r (oldest u r) (appliedBy c q) (pending c q))
+  pub applying-others : linkInto (applying s r w) q ≡ linkInto s q
+  applying-others =
+      link-is s (applying s r w) q f (live-same (applying s r w) s (members-applying s r w) q ∙ f) other-kept other-pending
+      (λ p a b. entry-applying s r w p)
 
-pub received-others : (u : World) (q r : ℕ) (w : Write) → Descending (u .chain) → placeOf (u .chain) r ≡ 0 → isLive (u .chain) q ≡ true →
-    1 < placeOf (u .chain) q → accepts (u .chain) r (w .stamp) ≡ true → linkInto (received u r w) q ≡ linkInto u q
-unfolding linkInto
-received-others u q r w g z f b a =
-    let c = u .chain in
-    let e = accepts-live c r (w .stamp) a in
-    let apart : placeOf c q ≡ placeOf c r → ⊥ = λ y. omega arith in
-    let later : placeOf c q ≡ placeOf c r + 1 → ⊥ = λ y. omega arith in
-    let front : appliedBy c (memberAt c (placeOf c q - 1)) ≤ appliedBy c (memberAt c (placeOf c r)) =
-    falls-to c (placeOf c r) (placeOf c q - 1) g (omega arith) (omega (arith, place-below c q f)) in
-    let within : appliedBy c q + pending c q ≤ appliedBy c r =
-    omega (arith, rw (place-at c r e) at front, pending-behind c q f (omega arith), own-lags c q g f (omega arith)) in
-    ap (λ (v : World). linkInto v q) (received-taken u r w a) ∙
-    rw (other-kept c q r g f e apart later (w .stamp), other-pending c q r g f e apart later (w .stamp))
-    (entries-written (logged (u .store) (appliedBy c r) w) r w (appliedBy c q) (pending c q) ∙
-    entries-logged (u .store) (appliedBy c r) w (appliedBy c q) (pending c q) within
-    (recent c q r g f e z (accepts-room c r (w .stamp) a)))
+-- 'applied and put in the link to the next replica': at the head, last in its outgoing link
+module _ (s : List ℕ) (r : ℕ) (w : Write) (g : Descending s) (z : SizedStore s) (y : chainPlace s r ≡ 0) (a : accepts s r (w .stamp) ≡ true) where
+  abbrev log : List ℕ
+  log = logged s (appliedBy s r) w
+
+  log-same : (q : ℕ) → chainPlace (logged s (appliedBy s r) w) q ≡ chainPlace s q
+  log-same q = place-same (logged s (appliedBy s r) w) s (members-logged s (appliedBy s r) w) q
+
+  log-live : (q : ℕ) → isLive (logged s (appliedBy s r) w) q ≡ isLive s q
+  log-live q = live-same (logged s (appliedBy s r) w) s (members-logged s (appliedBy s r) w) q
+
+  pub taken-next : HasNext s r → linkInto (taking s r w) (successorOf s r) ≡ linkInto s (successorOf s r) ++ w ∷ []
+  unfolding taking successorOf
+  taken-next h =
+      let same = members-logged s (appliedBy s r) w in
+      let has : HasNext log r = omega (arith, log-same r, count-same log s same) in
+      let next : memberAt log (chainPlace log r + 1) ≡ memberAt s (chainPlace s r + 1) =
+      ap (λ (p : ℕ). memberAt log (p + 1)) (log-same r) ∙ member-same log s same (chainPlace s r + 1) in
+      ap (linkInto (applying log r w)) (sym next) ∙
+      next-link log r (descending-logged s (appliedBy s r) w g) has w (sized-logged s (appliedBy s r) w z)
+      (rw (applied-logged s (appliedBy s r) w r) (accepts-position s r (w .stamp) a))
+      (ap (entryAt log) (applied-logged s (appliedBy s r) w r) ∙ entry-logged-same s (appliedBy s r) w z) ∙
+      ap (λ (l : List Write). l ++ w ∷ []) (ap (linkInto log) next ∙ logged-link s (memberAt s (chainPlace s r + 1)) r w g (next-live s r g h) y a)
+
+  pub taken-others : (q : ℕ) → isLive s q ≡ true → 1 < chainPlace s q → linkInto (taking s r w) q ≡ linkInto s q
+  unfolding taking
+  taken-others q f b =
+      applying-others log q r w (descending-logged s (appliedBy s r) w g) (log-live q ∙ f) (log-live r ∙ accepts-live s r (w .stamp) a)
+      (λ x. omega (arith, log-same q, log-same r))
+      (λ x. omega (arith, log-same q, log-same r)) ∙
+      logged-link s q r w g f y a
 
 -- a removal moves the replicas behind it up one place, and leaves those before it
-module _ (c : Chain) (q r : ℕ) (g : Descending c) (f : isLive c q ≡ true) (e : isLive c r ≡ true) where
-  left-before : placeOf c q < placeOf c r → placeOf (removed c r) q ≡ placeOf c q
+module _ (s : List ℕ) (q r : ℕ) (g : Descending s) (z : SizedStore s) (f : isLive s q ≡ true) (e : isLive s r ≡ true) where
+  left-before : chainPlace s q < chainPlace s r → chainPlace (removed s r) q ≡ chainPlace s q
   left-before b =
-      let here : memberAt (removed c r) (placeOf c q) ≡ q = member-removed-before c r (placeOf c q) e b ∙ place-at c q f in
-      ap (placeOf (removed c r)) (sym here) ∙
-      place-is (removed c r) (placeOf c q) (descending-removed c r g) (omega (arith, count-removed c r e, place-below c r e))
+      let here : memberAt (removed s r) (chainPlace s q) ≡ q = member-removed-before s r z e (chainPlace s q) b ∙ place-at s q f in
+      ap (chainPlace (removed s r)) (sym here) ∙
+      place-is (removed s r) (chainPlace s q) (descending-removed s r z g) (omega (arith, count-removed s r z e, place-below s r e))
 
-  left-behind : placeOf c r < placeOf c q → placeOf (removed c r) q ≡ placeOf c q - 1
+  left-behind : chainPlace s r < chainPlace s q → chainPlace (removed s r) q ≡ chainPlace s q - 1
   left-behind b =
-      let up : placeOf c q - 1 + 1 ≡ placeOf c q = omega arith in
-      let here : memberAt (removed c r) (placeOf c q - 1) ≡ q =
-      member-removed-behind c r (placeOf c q - 1) e (omega arith) ∙ ap (memberAt c) up ∙ place-at c q f in
-      ap (placeOf (removed c r)) (sym here) ∙
-      place-is (removed c r) (placeOf c q - 1) (descending-removed c r g) (omega (arith, count-removed c r e, place-below c q f))
+      let up : chainPlace s q - 1 + 1 ≡ chainPlace s q = omega arith in
+      let here : memberAt (removed s r) (chainPlace s q - 1) ≡ q =
+      member-removed-behind s r z e (chainPlace s q - 1) (omega arith) ∙ ap (memberAt s) up ∙ place-at s q f in
+      ap (chainPlace (removed s r)) (sym here) ∙
+      place-is (removed s r) (chainPlace s q - 1) (descending-removed s r z g) (omega (arith, count-removed s r z e, place-below s q f))
 
   -- at another place, with the same replica before it, as much is to come as before
-  left-pending : (k : ℕ) → placeOf (removed c r) q ≡ k → 0 < k → k < liveCount c - 1 → 0 < placeOf c q →
-      memberAt (removed c r) (k - 1) ≡ memberAt c (placeOf c q - 1) → pending (removed c r) q ≡ pending c q
-  unfolding isLive
-  left-pending k p b n h same =
-      let live : isLive (removed c r) q ≡ true =
-      lt-ltb (placeOf (removed c r) q) (liveCount (removed c r)) (omega (arith, p, count-removed c r e)) in
-      let before : memberAt (removed c r) (placeOf (removed c r) q - 1) ≡ memberAt c (placeOf c q - 1) =
-      ap (λ (i : ℕ). memberAt (removed c r) (i - 1)) p ∙ same in
-      simp (before, applied-removed) at (pending-behind (removed c r) q live (omega (arith, p))) ∙ sym (pending-behind c q f h)
+  left-pending : (k : ℕ) → chainPlace (removed s r) q ≡ k → 0 < k → 0 < chainPlace s q →
+      memberAt (removed s r) (k - 1) ≡ memberAt s (chainPlace s q - 1) → pending (removed s r) q ≡ pending s q
+  left-pending k p b h same =
+      let before : memberAt (removed s r) (chainPlace (removed s r) q - 1) ≡ memberAt s (chainPlace s q - 1) =
+      ap (λ (i : ℕ). memberAt (removed s r) (i - 1)) p ∙ same in
+      simp (before, applied-removed) at (pending-behind (removed s r) q (omega (arith, p))) ∙ sym (pending-behind s q h)
 
-  removed-pending : (placeOf c q ≡ placeOf c r → ⊥) → (placeOf c q ≡ placeOf c r + 1 → ⊥) → pending (removed c r) q ≡ pending c q
-  removed-pending d n =
-      elim (decLt (placeOf c q) (placeOf c r)) [
-        | yes b ↦ elim (ℕ-discrete (placeOf c q) 0) [
-          | yes z ↦ pending-head (removed c r) q (left-before b ∙ z) ∙ sym (pending-head c q z)
-          | no z ↦ left-pending (placeOf c q) (left-before b) (omega arith) (omega (arith, place-below c r e)) (omega arith)
-              (member-removed-before c r (placeOf c q - 1) e (omega arith))
+  module _ (d : chainPlace s q ≡ chainPlace s r → ⊥) (n : chainPlace s q ≡ chainPlace s r + 1 → ⊥) where
+    further : ¬ (chainPlace s q < chainPlace s r) → chainPlace s r + 1 < chainPlace s q
+    further b = omega (arith, d, n, b)
+
+    removed-behind : chainPlace s r + 1 < chainPlace s q → pending (removed s r) q ≡ pending s q
+    removed-behind b =
+        let up : chainPlace s q - 1 - 1 + 1 ≡ chainPlace s q - 1 = omega arith in
+        left-pending (chainPlace s q - 1) (left-behind (omega arith)) (omega arith) (omega arith)
+        (member-removed-behind s r z e (chainPlace s q - 1 - 1) (omega arith) ∙ ap (memberAt s) up)
+
+    removed-pending : pending (removed s r) q ≡ pending s q
+    removed-pending =
+        elim (decLt (chainPlace s q) (chainPlace s r)) [
+          | yes b ↦ elim (ℕ-discrete (chainPlace s q) 0) [
+            | yes y ↦ pending-head (removed s r) q (left-before b ∙ y) ∙ sym (pending-head s q y)
+            | no y ↦ left-pending (chainPlace s q) (left-before b) (omega arith) (omega arith)
+                (member-removed-before s r z e (chainPlace s q - 1) (omega arith))
+          ]
+          | no b ↦ removed-behind (further b)
         ]
-        | no b ↦ behind (differ d n b)
-      ]
+
+    left-live : isLive (removed s r) q ≡ true
+    left-live =
+        elim (decLt (chainPlace s q) (chainPlace s r)) [
+          | yes b ↦ below-live (removed s r) q (omega (arith, left-before b, count-removed s r z e, place-below s r e))
+          | no b ↦ below-live (removed s r) q (omega (arith, left-behind (omega (arith, further b)), further b, count-removed s r z e, place-below s q f))
+        ]
+
+    -- a removal leaves every link but those of the replica and of the next one as it is
+    pub removed-others : linkInto (removed s r) q ≡ linkInto s q
+    removed-others =
+        link-is s (removed s r) q f left-live (applied-removed s r q) removed-pending (λ p a b. entry-removed s r p)
+
+-- ---- all links together
+
+link-length : (s : List ℕ) (r : ℕ) → isLive s r ≡ true → length (linkInto s r) ≡ pending s r
+link-length s r e = ap length (link-live s r e) ∙ entries-length s (appliedBy s r) (pending s r)
+
+module _ (s : List ℕ) (g : Descending s) where
+  -- the links into the first places hold what the head has applied and the last of them has not
+  links-to : (k : ℕ) → k < liveCount s → linksTo s (suc k) ≡ appliedBy s (memberAt s 0) - appliedBy s (memberAt s k)
+  unfolding linksTo
+  links-to zero h =
+      let e = in-live s (memberAt s 0) (member-in s 0 h) in
+      omega (arith, link-length s (memberAt s 0) e, pending-head s (memberAt s 0) (place-is s 0 g h))
+  links-to (suc k) h =
+      let e = in-live s (memberAt s (suc k)) (member-in s (suc k) h) in
+      let place = place-is s (suc k) g h in
+      let back : memberAt s (chainPlace s (memberAt s (suc k)) - 1) ≡ memberAt s k = ap (memberAt s) (omega (arith, place)) in
+      let held : pending s (memberAt s (suc k)) ≡ appliedBy s (memberAt s k) - appliedBy s (memberAt s (suc k)) =
+      rw back at (pending-behind s (memberAt s (suc k)) (omega (arith, place))) in
+      omega (
+        arith,
+        links-to k (omega arith),
+        link-length s (memberAt s (suc k)) e,
+        held,
+        falls-to s k (suc k) g (omega arith) h,
+        falls-to s 0 k g (omega arith) (omega arith),
+      )
+
+  -- 'All links together hold': as many as the definition of the limit says
+  pub links-together : allLinks s ≡ linkedWrites s
+  unfolding allLinks linkedWrites linksTo
+  links-together = go (liveCount s) refl
     where
-      differ : (placeOf c q ≡ placeOf c r → ⊥) → (placeOf c q ≡ placeOf c r + 1 → ⊥) → ¬ (placeOf c q < placeOf c r) → placeOf c r + 1 < placeOf c q
-      differ d n b = omega (arith, d, n, b)
-
-      behind : placeOf c r + 1 < placeOf c q → pending (removed c r) q ≡ pending c q
-      behind b =
-          let up : placeOf c q - 1 - 1 + 1 ≡ placeOf c q - 1 = omega arith in
-          left-pending (placeOf c q - 1) (left-behind (omega arith)) (omega arith) (omega (arith, place-below c q f)) (omega arith)
-          (member-removed-behind c r (placeOf c q - 1 - 1) e (omega arith) ∙ ap (memberAt c) up)
-
--- a removal leaves every link but those of the replica and of the next one as it is
-pub removed-others : (u : World) (q r : ℕ) → Descending (u .chain) → isLive (u .chain) q ≡ true → isLive (u .chain) r ≡ true →
-    (placeOf (u .chain) q ≡ placeOf (u .chain) r → ⊥) → (placeOf (u .chain) q ≡ placeOf (u .chain) r + 1 → ⊥) →
-    linkInto (world (removed (u .chain) r) (u .store)) q ≡ linkInto u q
-unfolding linkInto
-removed-others u q r g f e d n = rw (applied-removed (u .chain) q r, removed-pending (u .chain) q r g f e d n) refl
+      go : (n : ℕ) → liveCount s ≡ n → linksTo s n ≡ appliedBy s (headOf s) - appliedBy s (tailOf s)
+      go zero e =
+          let last : tailOf s ≡ headOf s = tail-is s ∙ ap (λ (n : ℕ). memberAt s (n - 1)) e ∙ sym (head-is s) in
+          omega (arith, ap (appliedBy s) last)
+      go (suc k) e =
+          let last : tailOf s ≡ memberAt s k = tail-is s ∙ ap (λ (n : ℕ). memberAt s (n - 1)) e ∙ ap (memberAt s) (omega arith) in
+          rw (head-is s, last) (links-to k (omega arith))

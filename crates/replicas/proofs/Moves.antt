@@ -1,19 +1,18 @@
--- The laws of what the replicas do, for the crates above: what each test says, and what each step leaves.
+-- The laws of what the replicas do, for the crates above: what each test says.
 use mathlib.Core.Path.{_≡_, refl}
 use mathlib.Core.Bool.{Bool, true, false, cond}
+use mathlib.Core.List.{List}
 use Prim.Native.Nat.{ℕ, zero, suc, _-_, _≤_, _<_}
 use native.Mathlib.Omega.{arith}
 use lib.Dec.{eqb, leb, ltb}
-use borrow.Author.Tests.{eq-eqb, ne-eqb, eqb-true, eqb-false, ltb-true, leb-false, lt-ltb, le-ltb}
+use borrow.Author.Tests.{eq-eqb, ne-eqb, eqb-true, ltb-true, leb-false}
 use Rattle.limits.specs as limits
 use Rattle.stamp.specs.Stamps.{isAbove}
 use Rattle.stamp.proofs.Laws.{above-true, above-false}
-use Rattle.replicas.specs.declared.Chain.{Chain}
 use Rattle.replicas.specs.declared.Write.{Write}
-use Rattle.replicas.specs.Chain.{isLive, placeOf, memberAt, highestOf, permittedBy, appliedBy}
-use Rattle.replicas.specs.Store.{stampAt, written, logged}
-use Rattle.replicas.specs.Replicas.{World, world, linkedWrites, accepts, applying, received, pending, oldest, advanced, answersDirect}
-use Rattle.replicas.proofs.ChainLaws.{by-test}
+use Rattle.replicas.specs.Store.{highestOf, permittedBy, appliedBy, entryAt, stampAt, logged}
+use Rattle.replicas.specs.Chain.{chainPlace, isLive, memberAt, headOf, tailOf}
+use Rattle.replicas.specs.Replicas.{linkedWrites, accepts, applying, taking, pendingAt, pending, oldest, answersDirect}
 
 no-test : {A : Type 0} → false ≡ true → A
 no-test e = absurd (let z : _≡_ {A = ℕ} 0 1 = cc in omega arith)
@@ -30,103 +29,84 @@ but false b e = (refl, e)
 
 -- ---- a stamped write
 
-abbrev Accepted : Chain → ℕ → ℕ → Type 0
-Accepted c r stamp =
-    (isLive c r ≡ true) ×
-    (isAbove stamp (highestOf c r) ≡ true) ×
-    (leb limits.linked (linkedWrites c) ≡ false) ×
-    (ltb (appliedBy c r) limits.lastPosition ≡ true)
+abbrev Accepted : List ℕ → ℕ → ℕ → Type 0
+Accepted s r stamp =
+    (isLive s r ≡ true) ×
+    (isAbove stamp (highestOf s r) ≡ true) ×
+    (leb limits.linked (linkedWrites s) ≡ false) ×
+    (ltb (appliedBy s r) limits.lastPosition ≡ true)
 
-accepted : (c : Chain) (r stamp : ℕ) → accepts c r stamp ≡ true → Accepted c r stamp
+accepted : (s : List ℕ) (r stamp : ℕ) → accepts s r stamp ≡ true → Accepted s r stamp
 unfolding accepts
-accepted c r stamp e =
-    let live = both (isLive c r) _ e in
-    let above = both (isAbove stamp (highestOf c r)) _ (live .1) in
-    let room = but (leb limits.linked (linkedWrites c)) _ (above .1) in
+accepted s r stamp e =
+    let live = both (isLive s r) _ e in
+    let above = both (isAbove stamp (highestOf s r)) _ (live .1) in
+    let room = but (leb limits.linked (linkedWrites s)) _ (above .1) in
     (live .0, above .0, room .0, room .1)
 
-pub accepts-live : (c : Chain) (r stamp : ℕ) → accepts c r stamp ≡ true → isLive c r ≡ true
-accepts-live c r stamp e = accepted c r stamp e .0
+pub accepts-live : (s : List ℕ) (r stamp : ℕ) → accepts s r stamp ≡ true → isLive s r ≡ true
+accepts-live s r stamp e = accepted s r stamp e .0
 
-pub accepts-above : (c : Chain) (r stamp : ℕ) → accepts c r stamp ≡ true → highestOf c r < stamp
-accepts-above c r stamp e = above-true stamp (highestOf c r) (accepted c r stamp e .1)
+pub accepts-above : (s : List ℕ) (r stamp : ℕ) → accepts s r stamp ≡ true → highestOf s r < stamp
+accepts-above s r stamp e = above-true stamp (highestOf s r) (accepted s r stamp e .1)
 
-pub accepts-room : (c : Chain) (r stamp : ℕ) → accepts c r stamp ≡ true → linkedWrites c < limits.linked
-accepts-room c r stamp e = leb-false limits.linked (linkedWrites c) (accepted c r stamp e .2)
+pub accepts-room : (s : List ℕ) (r stamp : ℕ) → accepts s r stamp ≡ true → linkedWrites s < limits.linked
+accepts-room s r stamp e = leb-false limits.linked (linkedWrites s) (accepted s r stamp e .2)
 
-pub accepts-position : (c : Chain) (r stamp : ℕ) → accepts c r stamp ≡ true → appliedBy c r < limits.lastPosition
-accepts-position c r stamp e = ltb-true (appliedBy c r) limits.lastPosition (accepted c r stamp e .3)
-
-pub received-taken : (u : World) (r : ℕ) (w : Write) → accepts (u .chain) r (w .stamp) ≡ true →
-    received u r w ≡ world (applying (u .chain) r (w .stamp)) (written (logged (u .store) (appliedBy (u .chain) r) w) r w)
-unfolding received
-received-taken u r w e = rw e
-
-pub received-dropped : (u : World) (r : ℕ) (w : Write) → accepts (u .chain) r (w .stamp) ≡ false → received u r w ≡ u
-unfolding received
-received-dropped u r w e = rw e
+pub accepts-position : (s : List ℕ) (r stamp : ℕ) → accepts s r stamp ≡ true → appliedBy s r < limits.lastPosition
+accepts-position s r stamp e = ltb-true (appliedBy s r) limits.lastPosition (accepted s r stamp e .3)
 
 -- ---- a link that moves on
 
-abbrev behind : Chain → ℕ → ℕ
-behind c r = appliedBy c (memberAt c (placeOf c r - 1)) - appliedBy c r
-
-abbrev Pending : Chain → ℕ → ℕ → Type 0
-Pending c r n = 0 < n → (isLive c r ≡ true) × (placeOf c r ≡ 0 → ⊥) × (n ≡ behind c r)
-
-is-pending : (c : Chain) (r : ℕ) → Pending c r (pending c r)
+pub pending-at : (s : List ℕ) (r : ℕ) → pending s r ≡ pendingAt s (chainPlace s r) r
 unfolding pending
-is-pending c r = go (isLive c r) (eqb (placeOf c r) 0) refl refl
-  where
-    go : (a b : Bool) → isLive c r ≡ a → eqb (placeOf c r) 0 ≡ b → Pending c r (cond a (cond b 0 (behind c r)) 0)
-    go true true p q h = absurd (omega arith)
-    go true false p q h = (p, eqb-false (placeOf c r) 0 q, refl)
-    go false b p q h = absurd (omega arith)
+pending-at s r = refl
 
-pub pending-live : (c : Chain) (r : ℕ) → 0 < pending c r → isLive c r ≡ true
-pending-live c r h = is-pending c r h .0
+-- the head has no incoming link
+pub pending-head : (s : List ℕ) (r : ℕ) → chainPlace s r ≡ 0 → pending s r ≡ 0
+unfolding pending pendingAt
+pending-head s r z = rw (eq-eqb (chainPlace s r) 0 z)
 
-pub pending-place : (c : Chain) (r : ℕ) → 0 < pending c r → placeOf c r ≡ 0 → ⊥
-pending-place c r h = is-pending c r h .1
+-- behind another replica a link holds what that one has applied and this one has not
+pub pending-behind : (s : List ℕ) (r : ℕ) → 0 < chainPlace s r → pending s r ≡ appliedBy s (memberAt s (chainPlace s r - 1)) - appliedBy s r
+unfolding pending pendingAt
+pending-behind s r h = rw (ne-eqb (chainPlace s r) 0 (λ z. omega arith))
 
-pub pending-after : (c : Chain) (r : ℕ) → 0 < pending c r → 0 < placeOf c r
-pending-after c r h = positive (placeOf c r) (pending-place c r h)
+pub pending-after : (s : List ℕ) (r : ℕ) → 0 < pending s r → 0 < chainPlace s r
+pending-after s r h = positive (chainPlace s r) (λ z. omega (arith, pending-head s r z))
   where
     positive : (n : ℕ) → (n ≡ 0 → ⊥) → 0 < n
     positive zero d = absurd (d refl)
     positive (suc n) d = omega arith
 
-pub pending-is : (c : Chain) (r : ℕ) → 0 < pending c r →
-    pending c r ≡ appliedBy c (memberAt c (placeOf c r - 1)) - appliedBy c r
-pending-is c r h = is-pending c r h .2
-
--- behind another replica a link holds what that one has applied and this one has not
-pub pending-behind : (c : Chain) (r : ℕ) → isLive c r ≡ true → 0 < placeOf c r →
-    pending c r ≡ appliedBy c (memberAt c (placeOf c r - 1)) - appliedBy c r
-unfolding pending
-pending-behind c r e h = rw (e, ne-eqb (placeOf c r) 0 (λ z. omega arith))
-
-pub pending-head : (c : Chain) (r : ℕ) → placeOf c r ≡ 0 → pending c r ≡ 0
-unfolding pending
-pending-head c r z = by-test (λ n. n ≡ 0) (isLive c r) _ 0 (λ e. rw (eq-eqb (placeOf c r) 0 z)) (λ e. refl)
-
-pub advanced-taken : (u : World) (r : ℕ) → 0 < pending (u .chain) r →
-    advanced u r ≡ world (applying (u .chain) r (oldest u r .stamp)) (written (u .store) r (oldest u r))
-unfolding advanced
-advanced-taken u r h = rw (lt-ltb 0 (pending (u .chain) r) h)
-
-pub advanced-none : (u : World) (r : ℕ) → pending (u .chain) r ≡ 0 → advanced u r ≡ u
-unfolding advanced
-advanced-none u r e = rw (le-ltb 0 (pending (u .chain) r) (omega arith))
+pub pending-is : (s : List ℕ) (r : ℕ) → 0 < pending s r → pending s r ≡ appliedBy s (memberAt s (chainPlace s r - 1)) - appliedBy s r
+pending-is s r h = pending-behind s r (pending-after s r h)
 
 -- ---- a direct read
 
-pub answers-permit : (u : World) (r o number carried : ℕ) → answersDirect u r o number carried ≡ true → permittedBy (u .chain) r ≡ number
+pub answers-permit : (s : List ℕ) (r o number carried : ℕ) → answersDirect s r o number carried ≡ true → permittedBy s r ≡ number
 unfolding answersDirect
-answers-permit u r o number carried e = eqb-true (permittedBy (u .chain) r) number (both (eqb (permittedBy (u .chain) r) number) _ e .0)
+answers-permit s r o number carried e = eqb-true (permittedBy s r) number (both (eqb (permittedBy s r) number) _ e .0)
 
-pub answers-stamp : (u : World) (r o number carried : ℕ) → answersDirect u r o number carried ≡ true → stampAt (u .store) r o ≤ carried
+pub answers-stamp : (s : List ℕ) (r o number carried : ℕ) → answersDirect s r o number carried ≡ true → stampAt s r o ≤ carried
 unfolding answersDirect
-answers-stamp u r o number carried e =
-    let rest = both (eqb (permittedBy (u .chain) r) number) _ e .1 in
-    above-false (stampAt (u .store) r o) carried (but (isAbove (stampAt (u .store) r o) carried) true rest .0)
+answers-stamp s r o number carried e =
+    let rest = both (eqb (permittedBy s r) number) _ e .1 in
+    above-false (stampAt s r o) carried (but (isAbove (stampAt s r o) carried) true rest .0)
+
+-- ---- what the moves are made of
+
+-- the links hold what the head has applied and the tail has not
+pub linked-is : (s : List ℕ) → linkedWrites s ≡ appliedBy s (headOf s) - appliedBy s (tailOf s)
+unfolding linkedWrites
+linked-is s = refl
+
+-- an accepted write is put in the log where the replica's applied writes end, and applied
+pub taking-is : (s : List ℕ) (r : ℕ) (w : Write) → taking s r w ≡ applying (logged s (appliedBy s r) w) r w
+unfolding taking
+taking-is s r w = refl
+
+-- the oldest write of a link stands in the log where the replica's applied writes end
+pub oldest-is : (s : List ℕ) (r : ℕ) → oldest s r ≡ entryAt s (appliedBy s r)
+unfolding oldest
+oldest-is s r = refl

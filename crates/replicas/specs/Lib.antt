@@ -1,5 +1,5 @@
--- The replicas: the chain's shape, the lent store, and what the replicas do.
-pub mod Chain
+-- The replicas: the lent store, the chain's shape, and what the replicas do.
 pub mod Store
+pub mod Chain
 pub mod Replicas
 pub mod Links

@@ -1,10 +1,11 @@
 -- The links of document 01, 'Parts and how big they are', as lists of writes: what the log's positions mean.
+use mathlib.Core.Bool.{cond}
 use mathlib.Core.List.{List, [], _∷_}
 use Prim.Native.Nat.{ℕ, zero, suc, _+_}
-use Rattle.replicas.specs.Chain.{placeOf, memberAt, appliedBy}
-use Rattle.replicas.specs.Replicas.{World, pending}
-use Rattle.replicas.specs.Store.{entryAt}
-use Rattle.replicas.specs.declared.Chain.{Chain}
+use lib.ListN.{length}
+use Rattle.replicas.specs.Store.{liveCount, appliedBy, entryAt}
+use Rattle.replicas.specs.Chain.{chainPlace, isLive, memberAt}
+use Rattle.replicas.specs.Replicas.{pending}
 use Rattle.replicas.specs.declared.Write.{Write}
 
 -- the k writes of the log from a position up, the oldest first
@@ -12,10 +13,18 @@ unfoldable pub entries : List ℕ → ℕ → ℕ → List Write
 entries s position zero = []
 entries s position (suc k) = entryAt s position ∷ entries s (position + 1) k
 
--- the writes of a replica's incoming link, the oldest first
-unfoldable pub linkInto : World → ℕ → List Write
-linkInto u r = entries (u .store) (appliedBy (u .chain) r) (pending (u .chain) r)
+-- the writes of a replica's incoming link, the oldest first; a replica that is gone has none
+unfoldable pub linkInto : List ℕ → ℕ → List Write
+linkInto s r = cond (isLive s r) (entries s (appliedBy s r) (pending s r)) []
 
 -- the replica after this one in the chain
-unfoldable pub nextOf : Chain → ℕ → ℕ
-nextOf c r = memberAt c (placeOf c r + 1)
+unfoldable pub successorOf : List ℕ → ℕ → ℕ
+successorOf s r = memberAt s (chainPlace s r + 1)
+
+-- how many writes the links into the first k places hold together; into all places, all links
+unfoldable pub linksTo : List ℕ → ℕ → ℕ
+linksTo s zero = 0
+linksTo s (suc k) = linksTo s k + length (linkInto s (memberAt s k))
+
+unfoldable pub allLinks : List ℕ → ℕ
+allLinks s = linksTo s (liveCount s)

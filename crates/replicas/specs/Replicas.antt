@@ -1,70 +1,51 @@
--- What the replicas do with writes and reads: document 01, 'What delivery does' and the steps advance and remove.
+-- What the replicas do with writes and reads: document 01, 'What delivery does' and the step advance. s is what the lent store holds.
 use mathlib.Core.Bool.{Bool, true, false, cond}
 use mathlib.Core.List.{List}
 use Prim.Native.Nat.{ℕ, _+_, _-_}
-use lib.ListN.{set}
 use lib.Dec.{eqb, leb, ltb}
 use Rattle.limits.specs as limits
 use Rattle.stamp.specs.Stamps.{isAbove, largerOf}
-use Rattle.replicas.specs.Chain.{isLive, placeOf, memberAt, headOf, tailOf, rowOf, highestOf, permittedBy, appliedBy}
-use Rattle.replicas.specs.Store.{stampAt, entryAt, written, logged}
-use Rattle.replicas.specs.declared.Chain.{Chain}
+use Rattle.replicas.specs.Store.{highestOf, permittedBy, appliedBy, entryAt, stampAt, logged, tabled, raised}
+use Rattle.replicas.specs.Chain.{chainPlace, isLive, memberAt, headOf, tailOf}
 use Rattle.replicas.specs.declared.Write.{Write}
 
--- the chain and what the lent store holds
-pub record World : Type 0 where
-  pub chain : Chain
-  pub store : List ℕ
-
-abbrev pub world : Chain → List ℕ → World
-world c s = record { chain = c; store = s }
-
 -- 'All links together hold at most 64 writes': those that the head has applied and the tail has not
-unfoldable pub linkedWrites : Chain → ℕ
-linkedWrites c = appliedBy c (headOf c) - appliedBy c (tailOf c)
+unfoldable pub linkedWrites : List ℕ → ℕ
+linkedWrites s = appliedBy s (headOf s) - appliedBy s (tailOf s)
 
 -- a stamped write is 'dropped if that replica is gone, if the stamp is not above its highest, or if the links hold 64'; in a state that no run
 -- reaches, also if the replica's log can grow no more
-unfoldable pub accepts : Chain → ℕ → ℕ → Bool
-accepts c r stamp =
-    cond (isLive c r)
-    (cond (isAbove stamp (highestOf c r)) (cond (leb limits.linked (linkedWrites c)) false (ltb (appliedBy c r) limits.lastPosition)) false)
+unfoldable pub accepts : List ℕ → ℕ → ℕ → Bool
+accepts s r stamp =
+    cond (isLive s r)
+    (cond (isAbove stamp (highestOf s r)) (cond (leb limits.linked (linkedWrites s)) false (ltb (appliedBy s r) limits.lastPosition)) false)
     false
 
--- the replica has applied one write more
-unfoldable pub applying : Chain → ℕ → ℕ → Chain
-applying c r stamp = record {
-  live = c .live;
-  order = c .order;
-  highest = set (c .highest) (rowOf r) (largerOf (highestOf c r) stamp);
-  permits = c .permits;
-  applied = set (c .applied) (rowOf r) (appliedBy c r + 1);
-}
+-- the position after this one; the last stays
+unfoldable pub nextPosition : ℕ → ℕ
+nextPosition p = cond (ltb p limits.lastPosition) (p + 1) p
+
+-- the replica applies a write: its tables take it, and it has applied one more
+unfoldable pub applying : List ℕ → ℕ → Write → List ℕ
+applying s r w = raised (tabled s r w) r (largerOf (highestOf s r) (w .stamp)) (nextPosition (appliedBy s r))
 
 -- 'Otherwise it is applied and put in the link to the next replica.'
-unfoldable pub received : World → ℕ → Write → World
-received u r w =
-    cond (accepts (u .chain) r (w .stamp))
-    (world (applying (u .chain) r (w .stamp)) (written (logged (u .store) (appliedBy (u .chain) r) w) r w))
-    u
+unfoldable pub taking : List ℕ → ℕ → Write → List ℕ
+taking s r w = applying (logged s (appliedBy s r) w) r w
 
--- how many writes its incoming link holds: none for the head
-unfoldable pub pending : Chain → ℕ → ℕ
-pending c r =
-    cond (isLive c r) (cond (eqb (placeOf c r) 0) 0 (appliedBy c (memberAt c (placeOf c r - 1)) - appliedBy c r)) 0
+-- how many writes the link into a place of the chain holds, for the replica there: none at the head's
+unfoldable pub pendingAt : List ℕ → ℕ → ℕ → ℕ
+pendingAt s place r = cond (eqb place 0) 0 (appliedBy s (memberAt s (place - 1)) - appliedBy s r)
 
--- the oldest write of its incoming link
-unfoldable pub oldest : World → ℕ → Write
-oldest u r = entryAt (u .store) (appliedBy (u .chain) r)
+-- how many writes its incoming link holds
+unfoldable pub pending : List ℕ → ℕ → ℕ
+pending s r = pendingAt s (chainPlace s r) r
 
--- 'this replica applies the oldest write of its incoming link, and passes it on unless it is the tail': to have applied it is to have passed it on
-unfoldable pub advanced : World → ℕ → World
-advanced u r =
-    cond (ltb 0 (pending (u .chain) r))
-    (world (applying (u .chain) r (oldest u r .stamp)) (written (u .store) r (oldest u r)))
-    u
+-- the oldest write of its incoming link. 'This replica applies the oldest write of its incoming link, and passes it on unless it is the tail': to have
+-- applied it is to have passed it on
+unfoldable pub oldest : List ℕ → ℕ → Write
+oldest s r = entryAt s (appliedBy s r)
 
 -- a direct read is 'answered .. if the read's switch number is the one this replica permits and the object's stamp is not above the stamp carried'
-unfoldable pub answersDirect : World → ℕ → ℕ → ℕ → ℕ → Bool
-answersDirect u r o number carried =
-    cond (eqb (permittedBy (u .chain) r) number) (cond (isAbove (stampAt (u .store) r o) carried) false true) false
+unfoldable pub answersDirect : List ℕ → ℕ → ℕ → ℕ → ℕ → Bool
+answersDirect s r o number carried = cond (eqb (permittedBy s r) number) (cond (isAbove (stampAt s r o) carried) false true) false

@@ -1,11 +1,14 @@
 // The store that the caller lends: where each thing lies in it, and how it is read and written.
 ghost use mathlib.Core.Path.{_≡_};
 ghost use Prim.Native.Nat.{_<_};
-ghost use Rattle.replicas.specs.Chain.{rowOf};
-ghost use Rattle.replicas.specs.Store.{valueCell, stampCell, entryCell, emptyStore, valueAt, stampAt, entryAt, written, logged};
+ghost use Rattle.replicas.specs.Store.{rowOf, entryCell, valueCell, stampCell, highestOf, permittedBy, appliedBy, entryAt, valueAt, stampAt, logged, tabled, raised};
+use crate::APPLIED;
 use crate::CELLS;
 use crate::ENTRIES;
+use crate::HIGHEST;
+use crate::PERMITS;
 use crate::STAMPS;
+use crate::VALUES;
 use crate::Write;
 use limits::LINKED;
 use limits::OBJECTS;
@@ -22,79 +25,108 @@ pub fn row(r: Replica) -> usize
 }
 
 fn value_cell(r: Replica, o: Object) -> usize
-    ensures { λ x. ⌜ (x ≡ valueCell r o) × (x < 8192) ⌝ }
+    ensures { λ x. ⌜ (x ≡ valueCell (rowOf r) o) × (x < 8481) ⌝ }
 {
-    row(r) * OBJECTS + (o % 1024) as usize
+    VALUES + (row(r) * OBJECTS + (o % 1024) as usize)
 }
 
 fn stamp_cell(r: Replica, o: Object) -> usize
-    ensures { λ x. ⌜ (x ≡ stampCell r o) × (x < 16384) ⌝ }
+    ensures { λ x. ⌜ (x ≡ stampCell (rowOf r) o) × (x < 16673) ⌝ }
 {
     STAMPS + (row(r) * OBJECTS + (o % 1024) as usize)
 }
 
 fn entry_cell(field: usize, p: Position) -> usize
     requires { ⌜ field < 4 ⌝ }
-    ensures { λ x. ⌜ (x ≡ entryCell field p) × (x < 16640) ⌝ }
+    ensures { λ x. ⌜ (x ≡ entryCell field p) × (x < 289) ⌝ }
 {
     ENTRIES + field * LINKED + (p % 64) as usize
 }
 
-// An empty store: every value 0, every stamp (0,0).
-pub fn clear(store: &mut [u32; CELLS])
-    ensures { λ _. ⌜ now (store .exit) ≡ emptyStore ⌝ }
+// ---- what each replica keeps
+
+pub fn highest(cells: &[u32; CELLS], r: Replica) -> Stamp
+    ensures { λ x. ⌜ x ≡ highestOf (now (cells .entry)) r ⌝ }
 {
-    *store = [0; CELLS];
+    let i = HIGHEST + row(r);
+    cells[i]
 }
 
-pub fn read_value(store: &[u32; CELLS], r: Replica, o: Object) -> Value
-    ensures { λ x. ⌜ x ≡ valueAt (now (store .entry)) r o ⌝ }
+// The switch number that it permits, as the cell has it.
+pub fn permitted(cells: &[u32; CELLS], r: Replica) -> u32
+    ensures { λ x. ⌜ x ≡ permittedBy (now (cells .entry)) r ⌝ }
+{
+    let i = PERMITS + row(r);
+    cells[i]
+}
+
+pub fn applied(cells: &[u32; CELLS], r: Replica) -> Position
+    ensures { λ x. ⌜ x ≡ appliedBy (now (cells .entry)) r ⌝ }
+{
+    let i = APPLIED + row(r);
+    cells[i]
+}
+
+pub fn raise(cells: &mut [u32; CELLS], r: Replica, highest: Stamp, applied: Position)
+    ensures { λ _. ⌜ now (cells .exit) ≡ raised (now (cells .entry)) r highest applied ⌝ }
+{
+    let i = row(r);
+    cells[HIGHEST + i] = highest;
+    cells[APPLIED + i] = applied;
+}
+
+// ---- tables
+
+pub fn read_value(cells: &[u32; CELLS], r: Replica, o: Object) -> Value
+    ensures { λ x. ⌜ x ≡ valueAt (now (cells .entry)) r o ⌝ }
 {
     let i = value_cell(r, o);
-    store[i]
+    cells[i]
 }
 
-pub fn read_stamp(store: &[u32; CELLS], r: Replica, o: Object) -> Stamp
-    ensures { λ x. ⌜ x ≡ stampAt (now (store .entry)) r o ⌝ }
+pub fn read_stamp(cells: &[u32; CELLS], r: Replica, o: Object) -> Stamp
+    ensures { λ x. ⌜ x ≡ stampAt (now (cells .entry)) r o ⌝ }
 {
     let i = stamp_cell(r, o);
-    store[i]
+    cells[i]
 }
 
+pub fn put_write(cells: &mut [u32; CELLS], r: Replica, w: Write)
+    ensures { λ _. ⌜ now (cells .exit) ≡ tabled (now (cells .entry)) r w ⌝ }
+{
+    let i = value_cell(r, w.object);
+    cells[i] = w.value;
+    let j = stamp_cell(r, w.object);
+    cells[j] = w.stamp;
+}
+
+// ---- the log
+
 // The write at a position of the log.
-pub fn read_entry(store: &[u32; CELLS], p: Position) -> Write
-    ensures { λ x. ⌜ x ≡ entryAt (now (store .entry)) p ⌝ }
+pub fn read_entry(cells: &[u32; CELLS], p: Position) -> Write
+    ensures { λ x. ⌜ x ≡ entryAt (now (cells .entry)) p ⌝ }
 {
     let a = entry_cell(0, p);
     let b = entry_cell(1, p);
     let c = entry_cell(2, p);
     let d = entry_cell(3, p);
     Write {
-        operation: store[a],
-        object: store[b],
-        value: store[c],
-        stamp: store[d],
+        operation: cells[a],
+        object: cells[b],
+        value: cells[c],
+        stamp: cells[d],
     }
 }
 
-pub fn put_write(store: &mut [u32; CELLS], r: Replica, w: Write)
-    ensures { λ _. ⌜ now (store .exit) ≡ written (now (store .entry)) r w ⌝ }
-{
-    let i = value_cell(r, w.object);
-    store[i] = w.value;
-    let j = stamp_cell(r, w.object);
-    store[j] = w.stamp;
-}
-
-pub fn put_entry(store: &mut [u32; CELLS], p: Position, w: Write)
-    ensures { λ _. ⌜ now (store .exit) ≡ logged (now (store .entry)) p w ⌝ }
+pub fn put_entry(cells: &mut [u32; CELLS], p: Position, w: Write)
+    ensures { λ _. ⌜ now (cells .exit) ≡ logged (now (cells .entry)) p w ⌝ }
 {
     let a = entry_cell(0, p);
-    store[a] = w.operation;
+    cells[a] = w.operation;
     let b = entry_cell(1, p);
-    store[b] = w.object;
+    cells[b] = w.object;
     let c = entry_cell(2, p);
-    store[c] = w.value;
+    cells[c] = w.value;
     let d = entry_cell(3, p);
-    store[d] = w.stamp;
+    cells[d] = w.stamp;
 }

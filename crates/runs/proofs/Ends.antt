@@ -1,24 +1,24 @@
 -- Every run ends: it is over after as many turns as the input has bytes, and from then on nothing is printed.
-use mathlib.Core.Path.{_≡_, refl, ap, sym, subst, _∙_}
+use mathlib.Core.Path.{_≡_, refl, ap}
 use mathlib.Core.Bool.{Bool, true, false, cond}
 use mathlib.Core.Logic.{_⊎_, inl, inr}
-use mathlib.Core.List.{List, [], _∷_, _++_, append-assoc, append-nil}
+use mathlib.Core.List.{List, []}
 use Prim.Native.Nat.{ℕ, zero, suc, _+_, _-_, _<_, _≤_}
-use native.Mathlib.Nat.{suc-add, zero-add}
 use native.Mathlib.Omega.{arith}
 use lib.Dec.{ltb}
 use lib.ListN.{length}
 use Rattle.limits.specs as limits
-use Rattle.waiting.specs.declared.Packet.{Packet}
 use Rattle.protocol.specs.declared.Step.{Step}
 use Rattle.protocol.specs.declared.Refusal.the-variants.{InputTooLong}
 use Rattle.protocol.specs.Answers.{refusalNumber}
+use Rattle.protocol.specs.Steps.{Machine}
 use Rattle.lines.specs.Lines.{noLine}
 use Rattle.records.specs.declared.Next.{Next}
 use Rattle.records.specs.Records.{nextAt}
 use Rattle.records.proofs.Round.{next-record, next-position}
 use Rattle.records.proofs.Table.{record-long}
-use Rattle.runs.specs.Runs.{Standing, Printed, continued, readNext, nextPrinted, turns, stopped, startedWith, opened, firstPrinted, printed}
+use Rattle.turns.specs.Turns.{Standing, Printed, continued, readNext, nextPrinted, stopped, startedWith, firstRead, firstPrinted}
+use Rattle.runs.specs.Runs.{linesFrom, joined}
 
 -- how a run stands after k turns
 abbrev pub afterTurns : ℕ → List ℕ → Standing → Standing
@@ -43,12 +43,10 @@ over-stays : (k : ℕ) (input : List ℕ) (u : Standing) → u .over ≡ true �
 over-stays zero input u e = e
 over-stays (suc k) input u e = over-stays k input (nextPrinted input u .then) (ap (λ (p : Printed). p .then .over) (over-next input u e))
 
-pub over-prints : (k : ℕ) (input : List ℕ) (u : Standing) → u .over ≡ true → turns k input u ≡ []
-unfolding turns
+pub over-prints : (k : ℕ) (input : List ℕ) (u : Standing) → u .over ≡ true → joined (linesFrom k input u) ≡ []
+unfolding linesFrom joined
 over-prints zero input u e = refl
-over-prints (suc k) input u e =
-    ap (λ (p : Printed). p .line ++ turns k input (p .then)) (over-next input u e) ∙
-    over-prints k input (continued u Next.End .then) refl
+over-prints (suc k) input u e = rw (over-next input u e) (over-prints k input (continued u Next.End .then) refl)
 
 -- each turn goes ahead in the input or ends the run
 ends : (k : ℕ) (input : List ℕ) (u : Standing) → u .at ≤ length input → length input - u .at < k → afterTurns k input u .over ≡ true
@@ -63,45 +61,32 @@ ends (suc k) input u within few = go (readNext input (u .over) (u .at)) refl (en
     go Next.End e later = over-stays k input _ refl
     go Next.Malformed e later = over-stays k input _ refl
 
--- turns one after the other
-turns-more : (k j : ℕ) (input : List ℕ) (u : Standing) → turns (k + j) input u ≡ turns k input u ++ turns j input (afterTurns k input u)
-unfolding turns
-turns-more zero j input u = rw (zero-add j) refl
-turns-more (suc k) j input u =
-    rw (suc-add k j)
-    (ap (λ (l : List ℕ). nextPrinted input u .line ++ l) (turns-more k j input (nextPrinted input u .then)) ∙
-    sym (append-assoc (nextPrinted input u .line) (turns k input (nextPrinted input u .then)) (turns j input (afterTurns k input (nextPrinted input u .then)))))
-
-module _ (store opens : List ℕ) (row : List Packet) (input : List ℕ) where
+module _ (m : Machine) (input : List ℕ) where
   -- how a run stands after its first record
-  abbrev pub first : Standing
-  first = firstPrinted store opens row input .then
+  abbrev pub begun : Standing
+  begun = firstPrinted m input .then
 
   -- it is over, or stands within the input, past its start
   abbrev pub Ahead : Standing → Type 0
   Ahead u = (u .over ≡ true) ⊎ ((0 < u .at) × (u .at ≤ length input))
 
-  pub opened-ahead : (f : Next) → nextAt input 0 ≡ f → Ahead (opened store opens row f .then)
+  pub read-ahead-first : (f : Next) → nextAt input 0 ≡ f → Ahead (firstRead m f .then)
   unfolding stopped startedWith
-  opened-ahead (Next.Record x n) e = let p = next-position input 0 n x (next-record input 0 n x e .0) in inr (p .1, p .2)
-  opened-ahead Next.End e = inl refl
-  opened-ahead Next.Malformed e = inl refl
+  read-ahead-first (Next.Record x n) e = let p = next-position input 0 n x (next-record input 0 n x e .0) in inr (p .1, p .2)
+  read-ahead-first Next.End e = inl refl
+  read-ahead-first Next.Malformed e = inl refl
 
-  first-ahead : Ahead first
+  begun-ahead : Ahead begun
   unfolding firstPrinted stopped
-  first-ahead = go (ltb limits.input (length input))
+  begun-ahead = go (ltb limits.input (length input))
     where
-      go : (t : Bool) → Ahead (cond t (stopped store opens row (noLine 0 (refusalNumber InputTooLong))) (opened store opens row (nextAt input 0)) .then)
+      go : (t : Bool) → Ahead (cond t (stopped m (noLine 0 (refusalNumber InputTooLong))) (firstRead m (nextAt input 0)) .then)
       go true = inl refl
-      go false = opened-ahead (nextAt input 0) refl
+      go false = read-ahead-first (nextAt input 0) refl
 
-  -- EVERY RUN ENDS, after at most as many turns as the input has bytes
-  pub run-ends : afterTurns (length input) input first .over ≡ true
-  run-ends = elim first-ahead [ inl e ↦ over-stays (length input) input first e | inr p ↦ ends (length input) input first (p .1) (omega (arith, p .0, p .1)) ]
+  -- EVERY RUN ENDS, after at most as many turns as the input has bytes; and more turns print nothing more
+  pub run-ends : afterTurns (length input) input begun .over ≡ true
+  run-ends = elim begun-ahead [ inl e ↦ over-stays (length input) input begun e | inr p ↦ ends (length input) input begun (p .1) (omega (arith, p .0, p .1)) ]
 
-  -- and more turns print nothing more
-  pub printed-whole : (j : ℕ) → turns (length input + j) input first ≡ turns (length input) input first
-  printed-whole j =
-      turns-more (length input) j input first ∙
-      ap (λ (l : List ℕ). turns (length input) input first ++ l) (over-prints j input (afterTurns (length input) input first) run-ends) ∙
-      append-nil (turns (length input) input first)
+  pub run-prints-no-more : (j : ℕ) → joined (linesFrom j input (afterTurns (length input) input begun)) ≡ []
+  run-prints-no-more j = over-prints j input (afterTurns (length input) input begun) run-ends

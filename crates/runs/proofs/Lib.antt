@@ -1,6 +1,4 @@
--- Theorems about runs, and what walks over a run share.
-pub mod Turns
+-- Runs: that every run ends, how long its output is, and what a lent buffer holds of it.
 pub mod Ends
-pub mod Filling
 pub mod Whole
-pub mod Lent
+pub mod Output

@@ -26,10 +26,12 @@ cond-same true false x y u v e f g = absurd (let z : _≡_ {A = ℕ} 0 1 = cc in
 cond-same false true x y u v e f g = absurd (let z : _≡_ {A = ℕ} 0 1 = cc in omega arith)
 cond-same false false x y u v e f g = g
 
-pub first-same : {A : Type 0} (o : ℕ) (s t : ℕ → Bool) (f g : ℕ → A) (n : A) → ((i : ℕ) → s i ≡ t i) → ((i : ℕ) → s i ≡ true → f i ≡ g i) → firstOf o s f n ≡ firstOf o t g n
+pub first-same : {A : Type 0} (o : ℕ) (s t : ℕ → Bool) (f g : ℕ → A) (n : A) → ((i : ℕ) → Own o i → s i ≡ t i) → ((i : ℕ) → Own o i → s i ≡ true → f i ≡ g i) →
+    firstOf o s f n ≡ firstOf o t g n
 first-same o s t f g n e h =
-    cond-same _ _ _ _ _ _ (e (firstSlot o)) (h (firstSlot o))
-    (cond-same _ _ _ _ _ _ (e (secondSlot o)) (h (secondSlot o)) (cond-same _ _ _ _ _ _ (e (thirdSlot o)) (h (thirdSlot o)) refl))
+    cond-same _ _ _ _ _ _ (e (firstSlot o) (inl refl)) (h (firstSlot o) (inl refl))
+    (cond-same _ _ _ _ _ _ (e (secondSlot o) (inr (inl refl))) (h (secondSlot o) (inr (inl refl)))
+    (cond-same _ _ _ _ _ _ (e (thirdSlot o) (inr (inr refl))) (h (thirdSlot o) (inr (inr refl))) refl))
 
 -- what is found: the least own slot that passes, or nothing and no own slot passes
 abbrev pub Least : ℕ → (ℕ → Bool) → ℕ → Type 0

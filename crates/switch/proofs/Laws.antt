@@ -1,126 +1,314 @@
--- How the switch's number, counter, last-committed stamp and direct-reads sign move: only as the rules say.
-use mathlib.Core.Path.{_≡_, refl, sym, _∙_}
-use mathlib.Core.Bool.{Bool, true, false, cond}
+-- How the switch's number, counter, last-committed stamp and direct-reads sign move: only as the rules say. And what each slot holds afterwards.
+use mathlib.Core.Path.{_≡_, refl, sym, ap, _∙_}
+use mathlib.Core.Bool.{Bool, true, false, cond, not}
 use mathlib.Core.List.{List}
 use mathlib.Core.Logic.{_⊎_, inl, inr}
-use Prim.Native.Nat.{ℕ, _+_, _*_, _≤_, _<_}
+use Prim.Native.Nat.{ℕ, zero, suc, _+_, _*_, _%_, _≤_, _<_}
 use native.Mathlib.Omega.{arith}
-use lib.Dec.{eqb, leb}
-use lib.ListN.{length, getD, set, length-set, length-replicate}
-use borrow.Author.Tests.{eqb-false, leb-false}
+use native.Mathlib.Decide.{ℕ-discrete}
+use lib.Dec.{eqb, ltb}
+use lib.ListN.{length, getD, set, replicate, length-set, length-replicate}
+use lib.Seq.{getD-set-same, getD-set-other}
+use borrow.Author.Tests.{eqb-false, ne-eqb, ltb-true}
 use Rattle.stamp.specs.Stamps.{stampOf, isAbove, largerOf}
-use Rattle.stamp.proofs.Laws.{lt-above}
-use Rattle.switch.specs.declared.Switch.{Switch}
-use Rattle.switch.specs.declared.Marked.{Marked}
-use Rattle.switch.specs.DirtySet.{slots, slotFor, nextStamp, marking, notMarked, marked, isCompleted, clearedAt, completed, newSwitch}
+use Rattle.stamp.proofs.Laws.{lt-above, le-above, above-false}
+use Rattle.switch.specs.Numbers.{slots, switchCells, numberIn, counterIn, committedIn, directIn, slotObject, slotStamp}
+use Rattle.switch.specs.DirtySet.{firstSlot, secondSlot, thirdSlot, holdsObject, slotFor, nextStamp, marking, canMark, marked, stampFor, isCompleted, clearedAt, completed, newSwitch, countsAbove, countedTo, countedMarks}
+use Rattle.switch.proofs.FirstSlot.{slots-rise}
 
-abbrev pub made : Switch → ℕ → Marked
-made w o = record { ok = true; stamp = nextStamp w; state = marking w o (slotFor w o) }
+-- as many numbers as the code's type gives
+abbrev pub SizedSwitch : List ℕ → Type 0
+SizedSwitch w = length w ≡ switchCells
 
--- a mark is made, or the switch stays as it is
-abbrev pub MarkedCases : Switch → ℕ → Marked → Type 0
-MarkedCases w o m = (m ≡ notMarked w) ⊎ ((m ≡ made w o) × (slotFor w o < slots) × (w .counter ≡ 65535 → ⊥))
+-- ---- a mark is made, or the switch stays as it is
 
-pub marked-cases : (w : Switch) (o : ℕ) → MarkedCases w o (marked w o)
-unfolding marked
-marked-cases w o = go (eqb (w .counter) 65535) (leb slots (slotFor w o)) refl refl
+abbrev pub MarkedCases : List ℕ → ℕ → Type 0
+MarkedCases w o =
+    ((canMark w o ≡ false) × (marked w o ≡ w) × (stampFor w o ≡ 0)) ⊎
+    ((canMark w o ≡ true) × (marked w o ≡ marking w o (slotFor w o)) × (stampFor w o ≡ nextStamp w) × (slotFor w o < slots) × (counterIn w ≡ 65535 → ⊥))
+
+can-mark : (w : List ℕ) (o : ℕ) → canMark w o ≡ true → (slotFor w o < slots) × (counterIn w ≡ 65535 → ⊥)
+unfolding canMark
+can-mark w o = go (eqb (counterIn w) 65535) refl
   where
-    go : (a b : Bool) → eqb (w .counter) 65535 ≡ a → leb slots (slotFor w o) ≡ b → MarkedCases w o (cond a (notMarked w) (cond b (notMarked w) (made w o)))
-    go true b p q = inl refl
-    go false true p q = inl refl
-    go false false p q = inr (refl, leb-false slots (slotFor w o) q, eqb-false (w .counter) 65535 p)
+    go : (a : Bool) → eqb (counterIn w) 65535 ≡ a → cond a false (ltb (slotFor w o) slots) ≡ true → (slotFor w o < slots) × (counterIn w ≡ 65535 → ⊥)
+    go true p e = absurd (let z : _≡_ {A = ℕ} 0 1 = cc in omega arith)
+    go false p e = (ltb-true (slotFor w o) slots e, eqb-false (counterIn w) 65535 p)
 
--- what holds of the unmarked switch and of every marked one holds of the result
-by-marked : (P : Marked → Type 0) (w : Switch) (o : ℕ) → P (notMarked w) → P (made w o) → P (marked w o)
+pub marked-cases : (w : List ℕ) (o : ℕ) → MarkedCases w o
+unfolding marked stampFor
+marked-cases w o = go (canMark w o) refl
+  where
+    go : (b : Bool) → canMark w o ≡ b → MarkedCases w o
+    go true e = inr (e, rw e, rw e, can-mark w o e .0, can-mark w o e .1)
+    go false e = inl (e, rw e, rw e)
+
+-- a write that is not dropped has a stamp, and its counter is not 0
+pub next-stamp-used : (w : List ℕ) → nextStamp w ≡ 0 → ⊥
+unfolding nextStamp stampOf
+next-stamp-used w e = omega arith
+
+pub stamp-used : (w : List ℕ) (o : ℕ) → (stampFor w o ≡ 0 → ⊥) → stampFor w o ≡ stampOf (numberIn w) (counterIn w + 1)
+unfolding nextStamp
+stamp-used w o n = go (marked-cases w o)
+  where
+    go : MarkedCases w o → stampFor w o ≡ stampOf (numberIn w) (counterIn w + 1)
+    go (inl e) = absurd (n (e .2))
+    go (inr e) = e .2
+
+-- ---- a number that a mark leaves as it is
+
+marking-kept : (w : List ℕ) (o i j : ℕ) → (j ≡ 1 → ⊥) → (j ≡ 4 + i → ⊥) → (j ≡ 52 + i → ⊥) → getD (marking w o i) j 0 ≡ getD w j 0
+unfolding marking
+marking-kept w o i j a b c =
+    getD-set-other (set (set w 1 (counterIn w + 1)) (4 + i) o) (52 + i) j (nextStamp w) 0 c ∙
+    getD-set-other (set w 1 (counterIn w + 1)) (4 + i) j o 0 b ∙
+    getD-set-other w 1 j (counterIn w + 1) 0 a
+
+-- the three that it changes
+module _ (w : List ℕ) (o i : ℕ) (z : SizedSwitch w) (h : i < slots) where
+  pub counter-marking : (counterIn w ≡ 65535 → ⊥) → counterIn (marking w o i) ≡ counterIn w + 1
+  unfolding marking counterIn
+  counter-marking n =
+      let cell : getD (marking w o i) 1 0 ≡ getD w 1 0 % 65536 + 1 =
+      getD-set-other (set (set w 1 (counterIn w + 1)) (4 + i) o) (52 + i) 1 (nextStamp w) 0 (λ e. omega arith) ∙
+      getD-set-other (set w 1 (counterIn w + 1)) (4 + i) 1 o 0 (λ e. omega arith) ∙
+      getD-set-same w 1 (counterIn w + 1) 0 (omega arith) in
+      rw cell (omega (arith, n))
+
+  pub object-marking : slotObject (marking w o i) i ≡ o
+  unfolding marking slotObject
+  object-marking =
+      getD-set-other (set (set w 1 (counterIn w + 1)) (4 + i) o) (52 + i) (4 + i) (nextStamp w) 0 (λ e. omega arith) ∙
+      getD-set-same (set w 1 (counterIn w + 1)) (4 + i) o 0 (simp length-set (omega arith))
+
+  pub stamp-marking : slotStamp (marking w o i) i ≡ nextStamp w
+  unfolding marking slotStamp
+  stamp-marking = getD-set-same (set (set w 1 (counterIn w + 1)) (4 + i) o) (52 + i) (nextStamp w) 0 (simp length-set (omega arith))
+
+  -- every other slot stays
+  pub object-unmarked : (j : ℕ) → j < slots → (j ≡ i → ⊥) → slotObject (marking w o i) j ≡ slotObject w j
+  unfolding slotObject
+  object-unmarked j b n = marking-kept w o i (4 + j) (λ e. omega arith) (λ e. n (omega arith)) (λ e. omega arith)
+
+  pub stamp-unmarked : (j : ℕ) → j < slots → (j ≡ i → ⊥) → slotStamp (marking w o i) j ≡ slotStamp w j
+  unfolding slotStamp
+  stamp-unmarked j b n = marking-kept w o i (52 + j) (λ e. omega arith) (λ e. omega arith) (λ e. n (omega arith))
+
+-- ---- after a mark
+
+-- what holds of the switch as it was, and of every marked one, holds of the result
+by-marked : (P : List ℕ → Type 0) (w : List ℕ) (o : ℕ) → P w → P (marking w o (slotFor w o)) → P (marked w o)
 by-marked P w o a b = go (marked-cases w o)
   where
-    go : MarkedCases w o (marked w o) → P (marked w o)
-    go (inl e) = rw e a
-    go (inr e) = rw (e .0) b
+    go : MarkedCases w o → P (marked w o)
+    go (inl e) = rw (e .1) a
+    go (inr e) = rw (e .1) b
 
-pub marked-number : (w : Switch) (o : ℕ) → marked w o .state .number ≡ w .number
-unfolding marking
-marked-number w o = by-marked (λ m. m .state .number ≡ w .number) w o refl refl
+pub marked-number : (w : List ℕ) (o : ℕ) → numberIn (marked w o) ≡ numberIn w
+unfolding numberIn
+marked-number w o =
+    by-marked (λ v. getD v 0 0 % 65536 ≡ getD w 0 0 % 65536) w o refl
+    (ap (λ (n : ℕ). n % 65536) (marking-kept w o (slotFor w o) 0 (λ e. omega arith) (λ e. omega arith) (λ e. omega arith)))
 
-pub marked-committed : (w : Switch) (o : ℕ) → marked w o .state .committed ≡ w .committed
-unfolding marking
-marked-committed w o = by-marked (λ m. m .state .committed ≡ w .committed) w o refl refl
+pub marked-committed : (w : List ℕ) (o : ℕ) → committedIn (marked w o) ≡ committedIn w
+unfolding committedIn
+marked-committed w o =
+    by-marked (λ v. getD v 2 0 ≡ getD w 2 0) w o refl (marking-kept w o (slotFor w o) 2 (λ e. omega arith) (λ e. omega arith) (λ e. omega arith))
 
-pub marked-direct : (w : Switch) (o : ℕ) → marked w o .state .direct ≡ w .direct
-unfolding marking
-marked-direct w o = by-marked (λ m. m .state .direct ≡ w .direct) w o refl refl
+pub marked-direct : (w : List ℕ) (o : ℕ) → directIn (marked w o) ≡ directIn w
+unfolding directIn
+marked-direct w o =
+    by-marked (λ v. not (eqb (getD v 3 0) 0) ≡ not (eqb (getD w 3 0) 0)) w o refl
+    (ap (λ (n : ℕ). not (eqb n 0)) (marking-kept w o (slotFor w o) 3 (λ e. omega arith) (λ e. omega arith) (λ e. omega arith)))
 
 -- the counter rises by one exactly if the write gets a stamp
-pub marked-counter : (w : Switch) (o : ℕ) → marked w o .state .counter ≡ cond (marked w o .ok) (w .counter + 1) (w .counter)
-unfolding marking
-marked-counter w o = by-marked (λ m. m .state .counter ≡ cond (m .ok) (w .counter + 1) (w .counter)) w o refl refl
-
-pub marked-stamp : (w : Switch) (o : ℕ) → marked w o .ok ≡ true → marked w o .stamp ≡ stampOf (w .number) (w .counter + 1)
-marked-stamp w o = by-marked (λ m. m .ok ≡ true → m .stamp ≡ stampOf (w .number) (w .counter + 1)) w o (λ e. absurd (let z : _≡_ {A = ℕ} 0 1 = cc in omega arith)) (λ e. refl)
+pub marked-counter : (w : List ℕ) (o : ℕ) → SizedSwitch w → counterIn (marked w o) ≡ cond (eqb (stampFor w o) 0) (counterIn w) (counterIn w + 1)
+marked-counter w o z = go (marked-cases w o)
+  where
+    go : MarkedCases w o → counterIn (marked w o) ≡ cond (eqb (stampFor w o) 0) (counterIn w) (counterIn w + 1)
+    go (inl e) = rw (e .1, e .2)
+    go (inr e) = rw (e .1, e .2, ne-eqb (nextStamp w) 0 (next-stamp-used w)) (counter-marking w o (slotFor w o) z (e .3) (e .4))
 
 -- a write that gets no stamp leaves the switch as it was
-pub marked-stays : (w : Switch) (o : ℕ) → marked w o .ok ≡ false → marked w o .state ≡ w
-marked-stays w o = by-marked (λ m. m .ok ≡ false → m .state ≡ w) w o (λ e. refl) (λ e. absurd (let z : _≡_ {A = ℕ} 0 1 = cc in omega arith))
+pub marked-stays : (w : List ℕ) (o : ℕ) → stampFor w o ≡ 0 → marked w o ≡ w
+marked-stays w o e = go (marked-cases w o)
+  where
+    go : MarkedCases w o → marked w o ≡ w
+    go (inl m) = m .1
+    go (inr m) = absurd (next-stamp-used w (sym (m .2) ∙ e))
 
--- completion
-pub completed-number : (w : Switch) (o t : ℕ) → completed w o t .number ≡ w .number
-unfolding completed
-completed-number w o t = refl
-
-pub completed-counter : (w : Switch) (o t : ℕ) → completed w o t .counter ≡ w .counter
-unfolding completed
-completed-counter w o t = refl
-
-pub completed-committed : (w : Switch) (o t : ℕ) → completed w o t .committed ≡ largerOf (w .committed) t
-unfolding completed
-completed-committed w o t = refl
-
-pub completed-direct : (w : Switch) (o t : ℕ) → completed w o t .direct ≡ true
-unfolding completed
-completed-direct w o t = refl
-
--- a new switch
-pub new-number : (n : ℕ) → newSwitch n .number ≡ n
-unfolding newSwitch
-new-number n = refl
-
-pub new-counter : (n : ℕ) → newSwitch n .counter ≡ 0
-unfolding newSwitch
-new-counter n = refl
-
-pub new-committed : (n : ℕ) → newSwitch n .committed ≡ 0
-unfolding newSwitch
-new-committed n = refl
-
-pub new-direct : (n : ℕ) → newSwitch n .direct ≡ false
-unfolding newSwitch
-new-direct n = refl
+pub sized-marked : (w : List ℕ) (o : ℕ) → SizedSwitch w → SizedSwitch (marked w o)
+unfolding marking
+sized-marked w o h = by-marked SizedSwitch w o h (simp length-set h)
 
 -- the next stamp is above last-committed where that is at most the last stamp given
-pub next-above-committed : (w : Switch) → w .committed ≤ stampOf (w .number) (w .counter) → isAbove (nextStamp w) (w .committed) ≡ true
-unfolding stampOf
+pub next-above-committed : (w : List ℕ) → committedIn w ≤ stampOf (numberIn w) (counterIn w) → isAbove (nextStamp w) (committedIn w) ≡ true
+unfolding nextStamp stampOf
 next-above-committed w h = lt-above _ _ (omega arith)
 
--- both arrays have a place for each slot: so of every switch that code holds, kept by every operation
-abbrev pub Sized : Switch → Type 0
-Sized w = (length (w .objects) ≡ slots) × (length (w .stamps) ≡ slots)
+-- ---- a completion
 
-pub sized-new : (n : ℕ) → Sized (newSwitch n)
-unfolding newSwitch
-sized-new n = (length-replicate {A = ℕ} slots 0, length-replicate {A = ℕ} slots 0)
-
-pub sized-marked : (w : Switch) (o : ℕ) → Sized w → Sized (marked w o .state)
-unfolding marking
-sized-marked w o h = by-marked (λ m. Sized (m .state)) w o h (simp length-set (h .0), simp length-set (h .1))
-
-length-cleared : (os : List ℕ) (ss : List ℕ) (o t i : ℕ) → length (clearedAt os ss o t i) ≡ length ss
-unfolding clearedAt
-length-cleared os ss o t i = go (isCompleted (getD os i 0) (getD ss i 0) o t)
+completed-low : (x s o t : ℕ) → isCompleted x s o t ≡ true → s ≤ t
+unfolding isCompleted
+completed-low x s o t = go (holdsObject x s o) (isAbove s t) refl
   where
-    go : (b : Bool) → length (cond b (set ss i 0) ss) ≡ length ss
-    go true = length-set ss i 0
-    go false = refl
+    go : (a b : Bool) → isAbove s t ≡ b → cond a (cond b false true) false ≡ true → s ≤ t
+    go true true p e = absurd (let z : _≡_ {A = ℕ} 0 1 = cc in omega arith)
+    go true false p e = above-false s t p
+    go false b p e = absurd (let z : _≡_ {A = ℕ} 0 1 = cc in omega arith)
 
-pub sized-completed : (w : Switch) (o t : ℕ) → Sized w → Sized (completed w o t)
+-- w is v without some marks that the completion t covers: every other number stays
+pub record Covered (t : ℕ) (v w : List ℕ) : Type 0 where
+  pub same-length : length w ≡ length v
+  pub same : (j : ℕ) → j < 52 → getD w j 0 ≡ getD v j 0
+  pub stamps : (i : ℕ) → (slotStamp w i ≡ slotStamp v i) ⊎ ((slotStamp w i ≡ 0) × (slotStamp v i ≤ t))
+
+covered-none : (t : ℕ) (v : List ℕ) → Covered t v v
+covered-none t v = record { same-length = refl; same = λ j b. refl; stamps = λ i. inl refl }
+
+-- a slot that was emptied
+covered-one : (t : ℕ) (v : List ℕ) (i : ℕ) → SizedSwitch v → i < slots → slotStamp v i ≤ t → Covered t v (set v (52 + i) 0)
+unfolding slotStamp
+covered-one t v i z b low = record {
+  same-length = length-set v (52 + i) 0;
+  same = λ j h. getD-set-other v (52 + i) j 0 0 (λ e. omega arith);
+  stamps = λ j. elim (ℕ-discrete j i) [
+    | yes e ↦ rw e (inr (getD-set-same v (52 + i) 0 0 (omega arith), low))
+    | no n ↦ inl (getD-set-other v (52 + i) (52 + j) 0 0 (λ e. n (omega arith)))
+  ];
+}
+
+cleared-covered : (v : List ℕ) (o t i : ℕ) → SizedSwitch v → i < slots → Covered t v (clearedAt v o t i)
+unfolding clearedAt
+cleared-covered v o t i z b = go (isCompleted (slotObject v i) (slotStamp v i) o t) refl
+  where
+    go : (c : Bool) → isCompleted (slotObject v i) (slotStamp v i) o t ≡ c → Covered t v (cond c (set v (52 + i) 0) v)
+    go true e = covered-one t v i z b (completed-low (slotObject v i) (slotStamp v i) o t e)
+    go false e = covered-none t v
+
+covered-twice : {t : ℕ} {a b c : List ℕ} → Covered t a b → Covered t b c → Covered t a c
+covered-twice {t} {a} {b} {c} f g = record {
+  same-length = g .same-length ∙ f .same-length;
+  same = λ j h. g .same j h ∙ f .same j h;
+  stamps = λ i. go i (f .stamps i) (g .stamps i);
+}
+  where
+    go : (i : ℕ) → (slotStamp b i ≡ slotStamp a i) ⊎ ((slotStamp b i ≡ 0) × (slotStamp a i ≤ t)) → (slotStamp c i ≡ slotStamp b i) ⊎ ((slotStamp c i ≡ 0) × (slotStamp b i ≤ t)) → (slotStamp c i ≡ slotStamp a i) ⊎ ((slotStamp c i ≡ 0) × (slotStamp a i ≤ t))
+    go i (inl e) (inl d) = inl (d ∙ e)
+    go i (inl e) (inr d) = inr (d .0, omega (arith, d .1, e))
+    go i (inr e) (inl d) = inr (d ∙ e .0, e .1)
+    go i (inr e) (inr d) = inr (d .0, e .1)
+
+abbrev pub clearedOf : List ℕ → ℕ → ℕ → List ℕ
+clearedOf w o t = clearedAt (clearedAt (clearedAt w o t (firstSlot o)) o t (secondSlot o)) o t (thirdSlot o)
+
+pub completed-covered : (w : List ℕ) (o t : ℕ) → SizedSwitch w → Covered t w (clearedOf w o t)
+completed-covered w o t z =
+    let rise = slots-rise o in
+    let one = cleared-covered w o t (firstSlot o) z (omega (arith, rise)) in
+    let two = cleared-covered (clearedAt w o t (firstSlot o)) o t (secondSlot o) (one .same-length ∙ z) (omega (arith, rise)) in
+    let both = covered-twice one two in
+    covered-twice both (cleared-covered (clearedAt (clearedAt w o t (firstSlot o)) o t (secondSlot o)) o t (thirdSlot o) (both .same-length ∙ z) (omega (arith, rise)))
+
+-- the two numbers that a completion sets beside the slots
+completed-other : (w : List ℕ) (o t j : ℕ) → (j ≡ 2 → ⊥) → (j ≡ 3 → ⊥) → getD (completed w o t) j 0 ≡ getD (clearedOf w o t) j 0
 unfolding completed
-sized-completed w o t h = (h .0, simp length-cleared (h .1))
+completed-other w o t j a b =
+    getD-set-other (set (clearedOf w o t) 2 (largerOf (committedIn w) t)) 3 j 1 0 b ∙
+    getD-set-other (clearedOf w o t) 2 j (largerOf (committedIn w) t) 0 a
+
+module _ (w : List ℕ) (o t : ℕ) (z : SizedSwitch w) where
+  sized-cleared : length (clearedOf w o t) ≡ switchCells
+  sized-cleared = completed-covered w o t z .same-length ∙ z
+
+  pub sized-completed : SizedSwitch (completed w o t)
+  unfolding completed
+  sized-completed = simp length-set sized-cleared
+
+  pub completed-number : numberIn (completed w o t) ≡ numberIn w
+  unfolding numberIn
+  completed-number =
+      ap (λ (n : ℕ). n % 65536)
+      (completed-other w o t 0 (λ e. omega arith) (λ e. omega arith) ∙ completed-covered w o t z .same 0 (omega arith))
+
+  pub completed-counter : counterIn (completed w o t) ≡ counterIn w
+  unfolding counterIn
+  completed-counter =
+      ap (λ (n : ℕ). n % 65536)
+      (completed-other w o t 1 (λ e. omega arith) (λ e. omega arith) ∙ completed-covered w o t z .same 1 (omega arith))
+
+  pub completed-committed : committedIn (completed w o t) ≡ largerOf (committedIn w) t
+  unfolding completed committedIn
+  completed-committed =
+      getD-set-other (set (clearedOf w o t) 2 (largerOf (committedIn w) t)) 3 2 1 0 (λ e. omega arith) ∙
+      getD-set-same (clearedOf w o t) 2 (largerOf (committedIn w) t) 0 (omega (arith, sized-cleared))
+
+  pub completed-direct : directIn (completed w o t) ≡ true
+  unfolding completed directIn
+  completed-direct =
+      ap (λ (n : ℕ). not (eqb n 0))
+      (getD-set-same (set (clearedOf w o t) 2 (largerOf (committedIn w) t)) 3 1 0 (simp length-set (omega (arith, sized-cleared))))
+
+  -- each slot keeps its object; it keeps its stamp, or was emptied and had one that the completion covers
+  pub object-completed : (i : ℕ) → i < slots → slotObject (completed w o t) i ≡ slotObject w i
+  unfolding slotObject
+  object-completed i b =
+      completed-other w o t (4 + i) (λ e. omega arith) (λ e. omega arith) ∙ completed-covered w o t z .same (4 + i) (omega arith)
+
+  stamp-cleared : (i : ℕ) → slotStamp (completed w o t) i ≡ slotStamp (clearedOf w o t) i
+  unfolding slotStamp
+  stamp-cleared i = completed-other w o t (52 + i) (λ e. omega arith) (λ e. omega arith)
+
+  pub stamp-completed : (i : ℕ) → (slotStamp (completed w o t) i ≡ slotStamp w i) ⊎ ((slotStamp (completed w o t) i ≡ 0) × (slotStamp w i ≤ t))
+  stamp-completed i = go (completed-covered w o t z .stamps i)
+    where
+      go : (slotStamp (clearedOf w o t) i ≡ slotStamp w i) ⊎ ((slotStamp (clearedOf w o t) i ≡ 0) × (slotStamp w i ≤ t)) →
+          (slotStamp (completed w o t) i ≡ slotStamp w i) ⊎ ((slotStamp (completed w o t) i ≡ 0) × (slotStamp w i ≤ t))
+      go (inl e) = inl (stamp-cleared i ∙ e)
+      go (inr e) = inr (stamp-cleared i ∙ e .0, e .1)
+
+-- ---- a new switch
+
+zeros : (n j : ℕ) → _≡_ {A = ℕ} (getD (replicate n 0) j 0) 0
+zeros zero j = refl
+zeros (suc n) zero = refl
+zeros (suc n) (suc j) = zeros n j
+
+new-other : (n j : ℕ) → (j ≡ 0 → ⊥) → getD (newSwitch n) j 0 ≡ 0
+unfolding newSwitch
+new-other n j d = getD-set-other (replicate switchCells 0) 0 j n 0 d ∙ zeros switchCells j
+
+pub sized-new : (n : ℕ) → SizedSwitch (newSwitch n)
+unfolding newSwitch
+sized-new n = length-set (replicate switchCells 0) 0 n ∙ length-replicate {A = ℕ} switchCells 0
+
+pub new-number : (n : ℕ) → n < 65536 → numberIn (newSwitch n) ≡ n
+unfolding numberIn newSwitch
+new-number n h = omega (arith, getD-set-same (replicate switchCells 0) 0 n 0 (omega (arith, length-replicate {A = ℕ} switchCells 0)))
+
+pub new-counter : (n : ℕ) → counterIn (newSwitch n) ≡ 0
+unfolding counterIn
+new-counter n = ap (λ (k : ℕ). k % 65536) (new-other n 1 (λ e. omega arith))
+
+pub new-committed : (n : ℕ) → committedIn (newSwitch n) ≡ 0
+unfolding committedIn
+new-committed n = new-other n 2 (λ e. omega arith)
+
+-- no mark counts
+new-counted-to : (n c k : ℕ) → countedTo (newSwitch n) c k ≡ 0
+unfolding countedTo countsAbove slotStamp
+new-counted-to n c zero = refl
+new-counted-to n c (suc k) = rw (new-other n (52 + k) (λ e. omega arith), le-above 0 c (omega arith)) (new-counted-to n c k)
+
+pub new-counted : (n : ℕ) → countedMarks (newSwitch n) ≡ 0
+unfolding countedMarks
+new-counted n = new-counted-to n (committedIn (newSwitch n)) slots
+
+pub new-direct : (n : ℕ) → directIn (newSwitch n) ≡ false
+unfolding directIn
+new-direct n = ap (λ (k : ℕ). not (eqb k 0)) (new-other n 3 (λ e. omega arith))
+
+pub stamp-new : (n i : ℕ) → slotStamp (newSwitch n) i ≡ 0
+unfolding slotStamp
+stamp-new n i = new-other n (52 + i) (λ e. omega arith)

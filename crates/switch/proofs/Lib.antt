@@ -1,3 +1,4 @@
+-- The laws of the switch for the crates above.
 pub mod FirstSlot
 pub mod Laws
 pub mod Lookup

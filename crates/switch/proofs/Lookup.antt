@@ -1,23 +1,21 @@
 -- What look-up gives after a mark, a completion and a replacement. A counting mark is lost only by a completion of its object that is not below it,
 -- by last-committed reaching it, or by replacement.
-use mathlib.Core.Path.{_≡_, refl, sym, ap, _∙_, subst}
+use mathlib.Core.Path.{_≡_, refl, sym, ap, _∙_}
 use mathlib.Core.Bool.{Bool, true, false, cond}
 use mathlib.Core.List.{List}
 use mathlib.Core.Logic.{_⊎_, inl, inr}
-use Prim.Native.Nat.{ℕ, zero, suc, _+_, _*_, _≤_, _<_, max}
+use Prim.Native.Nat.{ℕ, _+_, _≤_, _<_, max}
 use native.Mathlib.Omega.{arith}
-use native.Mathlib.Decide.{ℕ-discrete, decLt}
+use native.Mathlib.Decide.{ℕ-discrete}
 use lib.Dec.{eqb}
-use lib.ListN.{length, getD, set, replicate, length-set, List·getD-eq-default}
-use lib.Seq.{getD-set-same, getD-set-other}
-use borrow.Author.Tests.{eqb-true, eqb-false, eq-eqb, ne-eqb}
+use borrow.Author.Tests.{eqb-true, eq-eqb, ne-eqb}
 use Rattle.stamp.specs.Stamps.{stampOf, isAbove, largerOf}
 use Rattle.stamp.proofs.Laws.{lt-above, le-above, above-true, above-false, larger-is}
-use Rattle.switch.specs.declared.Switch.{Switch}
-use Rattle.switch.specs.declared.Marked.{Marked}
-use Rattle.switch.specs.DirtySet.{slots, firstSlot, secondSlot, thirdSlot, objectAt, stampAt, holdsObject, countsAbove, holdsAt, isFree, holdsAbove, firstOf, freeSlot, slotFor, markAbove, lookedUp, nextStamp, marking, marked, isCompleted, clearedAt, completed, newSwitch}
+use Rattle.switch.specs.Numbers.{slots, numberIn, counterIn, committedIn, slotObject, slotStamp}
+use Rattle.switch.specs.DirtySet.{firstSlot, secondSlot, thirdSlot, holdsObject, countsAbove, holdsAt, isFree, holdsAbove, firstOf, freeSlot, slotFor, markAbove, lookedUp, nextStamp, marking, marked, stampFor, completed, newSwitch}
 use Rattle.switch.proofs.FirstSlot.{Own, Least, NonePasses, own-below, first-same, first-gives, first-at, first-none}
-use Rattle.switch.proofs.Laws.{Sized, made, MarkedCases, marked-cases, next-above-committed, completed-committed}
+use Rattle.switch.proofs.Laws.{SizedSwitch, MarkedCases, marked-cases, next-stamp-used, next-above-committed, object-marking, stamp-marking, object-unmarked, stamp-unmarked, marked-committed}
+use Rattle.switch.proofs.Laws.{completed-committed, object-completed, stamp-completed, new-committed, stamp-new}
 
 -- ---- tests of one slot
 
@@ -91,18 +89,18 @@ free-low s c = go (isAbove s c) refl
 -- ---- where a mark goes
 
 -- the slot for a mark is one of the object's own. It is the first that holds the object; or no own slot holds it, and the slot is free
-abbrev pub Target : Switch → ℕ → ℕ → Type 0
-Target w o i = Least o (holdsAt w o) i ⊎ (Own o i × (stampAt w i ≤ w .committed) × NonePasses o (holdsAt w o))
+abbrev pub Target : List ℕ → ℕ → ℕ → Type 0
+Target w o i = Least o (holdsAt w o) i ⊎ (Own o i × (slotStamp w i ≤ committedIn w) × NonePasses o (holdsAt w o))
 
-pub slot-target : (w : Switch) (o : ℕ) → slotFor w o < slots → Target w o (slotFor w o)
+pub slot-target : (w : List ℕ) (o : ℕ) → slotFor w o < slots → Target w o (slotFor w o)
 unfolding slotFor freeSlot
-slot-target w o h = go (first-gives o (holdsAt w o) (freeSlot w o)) (first-gives o (λ i. isFree (stampAt w i) (w .committed)) slots)
+slot-target w o h = go (first-gives o (holdsAt w o) (freeSlot w o)) (first-gives o (λ i. isFree (slotStamp w i) (committedIn w)) slots)
   where
-    free-least : (i : ℕ) → Least o (λ j. isFree (stampAt w j) (w .committed)) i → NonePasses o (holdsAt w o) → Target w o i
-    free-least i l n = inr (l .0, free-low (stampAt w i) (w .committed) (l .1), n)
+    free-least : (i : ℕ) → Least o (λ j. isFree (slotStamp w j) (committedIn w)) i → NonePasses o (holdsAt w o) → Target w o i
+    free-least i l n = inr (l .0, free-low (slotStamp w i) (committedIn w) (l .1), n)
 
     go : Least o (holdsAt w o) (slotFor w o) ⊎ ((slotFor w o ≡ freeSlot w o) × NonePasses o (holdsAt w o))
-        → Least o (λ i. isFree (stampAt w i) (w .committed)) (freeSlot w o) ⊎ ((freeSlot w o ≡ slots) × NonePasses o (λ i. isFree (stampAt w i) (w .committed)))
+        → Least o (λ i. isFree (slotStamp w i) (committedIn w)) (freeSlot w o) ⊎ ((freeSlot w o ≡ slots) × NonePasses o (λ i. isFree (slotStamp w i) (committedIn w)))
         → Target w o (slotFor w o)
     go (inl l) f = inl l
     go (inr e) (inl l) = rw (e .0) (free-least (freeSlot w o) l (e .1))
@@ -110,29 +108,17 @@ slot-target w o h = go (first-gives o (holdsAt w o) (freeSlot w o)) (first-gives
 
 -- ---- after a mark
 
-module _ (w : Switch) (o : ℕ) (z : Sized w) (h : slotFor w o < slots) where
-  -- what the marked slot and the other slots hold
-  object-here : objectAt (marking w o (slotFor w o)) (slotFor w o) ≡ o
-  unfolding marking
-  object-here = getD-set-same (w .objects) (slotFor w o) o 0 (omega (arith, z .0))
+-- the test of look-up at one slot
+abbrev test : ℕ → ℕ → List ℕ → ℕ → Bool
+test p c v j = holdsAbove (slotObject v j) (slotStamp v j) p c
 
-  stamp-here : stampAt (marking w o (slotFor w o)) (slotFor w o) ≡ nextStamp w
-  unfolding marking
-  stamp-here = getD-set-same (w .stamps) (slotFor w o) (nextStamp w) 0 (omega (arith, z .1))
+module _ (w : List ℕ) (o : ℕ) (z : SizedSwitch w) (h : slotFor w o < slots) where
+  after : List ℕ
+  after = marking w o (slotFor w o)
 
-  object-there : (j : ℕ) → (j ≡ slotFor w o → ⊥) → objectAt (marking w o (slotFor w o)) j ≡ objectAt w j
-  unfolding marking
-  object-there j n = getD-set-other (w .objects) (slotFor w o) j o 0 n
-
-  stamp-there : (j : ℕ) → (j ≡ slotFor w o → ⊥) → stampAt (marking w o (slotFor w o)) j ≡ stampAt w j
-  unfolding marking
-  stamp-there j n = getD-set-other (w .stamps) (slotFor w o) j (nextStamp w) 0 n
-
-  abbrev test : ℕ → ℕ → Switch → ℕ → Bool
-  test p c v j = holdsAbove (objectAt v j) (stampAt v j) p c
-
-  test-there : (p c j : ℕ) → (j ≡ slotFor w o → ⊥) → test p c (marking w o (slotFor w o)) j ≡ test p c w j
-  test-there p c j n = rw (object-there j n, stamp-there j n)
+  test-there : (p c j : ℕ) → j < slots → (j ≡ slotFor w o → ⊥) → test p c after j ≡ test p c w j
+  unfolding after
+  test-there p c j b n = rw (object-unmarked w o (slotFor w o) z h j b n, stamp-unmarked w o (slotFor w o) z h j b n)
 
   -- no own slot before the marked one holds the object
   before : (j : ℕ) → Own o j → j < slotFor w o → holdsAt w o j ≡ false
@@ -149,193 +135,149 @@ module _ (w : Switch) (o : ℕ) (z : Sized w) (h : slotFor w o < slots) where
       go (inl t) = t .0
       go (inr t) = t .0
 
-  next-used : nextStamp w ≡ 0 → ⊥
-  unfolding stampOf
-  next-used e = omega arith
-
   -- the object's mark is the new one
   pub marking-same : (c : ℕ) → isAbove (nextStamp w) c ≡ true → markAbove (marking w o (slotFor w o)) o c ≡ nextStamp w
-  unfolding markAbove
-  marking-same c a = first-at o (test o c (marking w o (slotFor w o))) (stampAt (marking w o (slotFor w o))) 0 (slotFor w o) (own-here, here, earlier) ∙ stamp-here
+  unfolding markAbove after
+  marking-same c a =
+      first-at o (test o c after) (slotStamp after) 0 (slotFor w o) (own-here, here, earlier) ∙ stamp-marking w o (slotFor w o) z h
     where
-      here : test o c (marking w o (slotFor w o)) (slotFor w o) ≡ true
-      here = rw (object-here, stamp-here) (above-of o (nextStamp w) o c (holds-own o (nextStamp w) next-used) a)
+      here : test o c after (slotFor w o) ≡ true
+      here =
+          rw (object-marking w o (slotFor w o) z h, stamp-marking w o (slotFor w o) z h)
+          (above-of o (nextStamp w) o c (holds-own o (nextStamp w) (next-stamp-used w)) a)
 
-      earlier : (j : ℕ) → Own o j → j < slotFor w o → test o c (marking w o (slotFor w o)) j ≡ false
-      earlier j m l = test-there o c j (λ e. omega arith) ∙ not-above-unheld (objectAt w j) (stampAt w j) o c (before j m l)
+      earlier : (j : ℕ) → Own o j → j < slotFor w o → test o c after j ≡ false
+      earlier j m l =
+          test-there o c j (own-below o j m) (λ e. omega arith) ∙ not-above-unheld (slotObject w j) (slotStamp w j) o c (before j m l)
 
   -- before the mark the slot had no counting mark of another object
-  no-other : (p : ℕ) → (p ≡ o → ⊥) → test p (w .committed) w (slotFor w o) ≡ false
+  no-other : (p : ℕ) → (p ≡ o → ⊥) → test p (committedIn w) w (slotFor w o) ≡ false
   no-other p n = go (slot-target w o h)
     where
-      go : Target w o (slotFor w o) → test p (w .committed) w (slotFor w o) ≡ false
+      go : Target w o (slotFor w o) → test p (committedIn w) w (slotFor w o) ≡ false
       go (inl t) =
-          let e : objectAt w (slotFor w o) ≡ o = holds-object (objectAt w (slotFor w o)) (stampAt w (slotFor w o)) o (t .1) in
-          not-above-unheld _ _ p (w .committed) (holds-not-other (objectAt w (slotFor w o)) (stampAt w (slotFor w o)) p (λ q. n (sym q ∙ e)))
-      go (inr t) = not-above-low (objectAt w (slotFor w o)) (stampAt w (slotFor w o)) p (w .committed) (t .1)
+          let e : slotObject w (slotFor w o) ≡ o = holds-object (slotObject w (slotFor w o)) (slotStamp w (slotFor w o)) o (t .1) in
+          not-above-unheld _ _ p (committedIn w) (holds-not-other (slotObject w (slotFor w o)) (slotStamp w (slotFor w o)) p (λ q. n (sym q ∙ e)))
+      go (inr t) = not-above-low (slotObject w (slotFor w o)) (slotStamp w (slotFor w o)) p (committedIn w) (t .1)
 
   -- other objects' counting marks stay
-  pub marking-other : (p : ℕ) → (p ≡ o → ⊥) → markAbove (marking w o (slotFor w o)) p (w .committed) ≡ markAbove w p (w .committed)
-  unfolding markAbove
-  marking-other p n = first-same p (test p (w .committed) (marking w o (slotFor w o))) (test p (w .committed) w) (stampAt (marking w o (slotFor w o))) (stampAt w) 0 same (λ j t. found j t (ℕ-discrete j (slotFor w o)))
+  pub marking-other : (p : ℕ) → (p ≡ o → ⊥) → markAbove (marking w o (slotFor w o)) p (committedIn w) ≡ markAbove w p (committedIn w)
+  unfolding markAbove after
+  marking-other p n =
+      first-same p (test p (committedIn w) after) (test p (committedIn w) w) (slotStamp after) (slotStamp w) 0
+      (λ j m. same j m (ℕ-discrete j (slotFor w o))) (λ j m t. found j m t (ℕ-discrete j (slotFor w o)))
     where
-      gone : test p (w .committed) (marking w o (slotFor w o)) (slotFor w o) ≡ false
-      gone = rw (object-here, stamp-here) (not-above-unheld o (nextStamp w) p (w .committed) (holds-not-other o (nextStamp w) p (λ q. n (sym q))))
+      gone : test p (committedIn w) after (slotFor w o) ≡ false
+      gone =
+          rw (object-marking w o (slotFor w o) z h, stamp-marking w o (slotFor w o) z h)
+          (not-above-unheld o (nextStamp w) p (committedIn w) (holds-not-other o (nextStamp w) p (λ q. n (sym q))))
 
-      same : (j : ℕ) → test p (w .committed) (marking w o (slotFor w o)) j ≡ test p (w .committed) w j
-      same j = elim (ℕ-discrete j (slotFor w o)) [ yes e ↦ rw e (gone ∙ sym (no-other p n)) | no e ↦ test-there p (w .committed) j e ]
+      same : (j : ℕ) → Own p j → Dec (j ≡ slotFor w o) → test p (committedIn w) after j ≡ test p (committedIn w) w j
+      same j m (yes e) = rw e (gone ∙ sym (no-other p n))
+      same j m (no e) = test-there p (committedIn w) j (own-below p j m) e
 
-      found : (j : ℕ) → test p (w .committed) (marking w o (slotFor w o)) j ≡ true → Dec (j ≡ slotFor w o) → stampAt (marking w o (slotFor w o)) j ≡ stampAt w j
-      found j t (yes e) = absurd (let q : true ≡ false = sym t ∙ ap (test p (w .committed) (marking w o (slotFor w o))) e ∙ gone in let y : _≡_ {A = ℕ} 0 1 = cc in omega arith)
-      found j t (no e) = stamp-there j e
+      found : (j : ℕ) → Own p j → test p (committedIn w) after j ≡ true → Dec (j ≡ slotFor w o) → slotStamp after j ≡ slotStamp w j
+      found j m t (yes e) =
+          absurd (let q : true ≡ false = sym t ∙ ap (test p (committedIn w) after) e ∙ gone in let y : _≡_ {A = ℕ} 0 1 = cc in omega arith)
+      found j m t (no e) = stamp-unmarked w o (slotFor w o) z h j (own-below p j m) e
 
 -- marking an object gives it the write's stamp for its mark
-pub lookup-marked : (w : Switch) (o : ℕ) → Sized w → w .committed ≤ stampOf (w .number) (w .counter) → marked w o .ok ≡ true → lookedUp (marked w o .state) o ≡ marked w o .stamp
-unfolding lookedUp marking
-lookup-marked w o z b e = go (marked-cases w o) e
+pub lookup-marked : (w : List ℕ) (o : ℕ) → SizedSwitch w → committedIn w ≤ stampOf (numberIn w) (counterIn w) → (stampFor w o ≡ 0 → ⊥) →
+    lookedUp (marked w o) o ≡ stampFor w o
+unfolding lookedUp
+lookup-marked w o z b n = go (marked-cases w o)
   where
-    go : MarkedCases w o (marked w o) → marked w o .ok ≡ true → markAbove (marked w o .state) o (marked w o .state .committed) ≡ marked w o .stamp
-    go (inl m) q = absurd (let y : false ≡ true = sym (ap (λ (r : Marked). r .ok) m) ∙ q in let x : _≡_ {A = ℕ} 0 1 = cc in omega arith)
-    go (inr m) q = rw (m .0) (marking-same w o z (m .1) (w .committed) (next-above-committed w b))
+    go : MarkedCases w o → markAbove (marked w o) o (committedIn (marked w o)) ≡ stampFor w o
+    go (inl m) = absurd (n (m .2))
+    go (inr m) = rw (marked-committed w o, m .1, m .2) (marking-same w o z (m .3) (committedIn w) (next-above-committed w b))
 
 -- the marks of other objects stay, whether this one is marked or not
-pub lookup-marked-other : (w : Switch) (o p : ℕ) → Sized w → (p ≡ o → ⊥) → lookedUp (marked w o .state) p ≡ lookedUp w p
-unfolding lookedUp marking
+pub lookup-marked-other : (w : List ℕ) (o p : ℕ) → SizedSwitch w → (p ≡ o → ⊥) → lookedUp (marked w o) p ≡ lookedUp w p
+unfolding lookedUp
 lookup-marked-other w o p z n = go (marked-cases w o)
   where
-    go : MarkedCases w o (marked w o) → markAbove (marked w o .state) p (marked w o .state .committed) ≡ markAbove w p (w .committed)
-    go (inl m) = rw m
-    go (inr m) = rw (m .0) (marking-other w o z (m .1) p n)
+    go : MarkedCases w o → markAbove (marked w o) p (committedIn (marked w o)) ≡ markAbove w p (committedIn w)
+    go (inl m) = rw (m .1)
+    go (inr m) = rw (marked-committed w o, m .1) (marking-other w o z (m .3) p n)
 
 -- ---- after a completion
 
--- each slot keeps its stamp, or was emptied and had one that the completion covers
-record Covered (t : ℕ) (ss rs : List ℕ) : Type 0 where
-  at : (j : ℕ) → (getD rs j 0 ≡ getD ss j 0) ⊎ ((getD rs j 0 ≡ 0) × (getD ss j 0 ≤ t))
-
-completed-low : (x s o t : ℕ) → isCompleted x s o t ≡ true → s ≤ t
-unfolding isCompleted
-completed-low x s o t = go (holdsObject x s o) (isAbove s t) refl
-  where
-    go : (a b : Bool) → isAbove s t ≡ b → cond a (cond b false true) false ≡ true → s ≤ t
-    go true true p e = absurd (let z : _≡_ {A = ℕ} 0 1 = cc in omega arith)
-    go true false p e = above-false s t p
-    go false b p e = absurd (let z : _≡_ {A = ℕ} 0 1 = cc in omega arith)
-
-set-zero : (l : List ℕ) (k : ℕ) → getD (set l k 0) k 0 ≡ 0
-set-zero l k = elim (decLt k (length l)) [ yes h ↦ getD-set-same l k 0 0 h | no h ↦ List·getD-eq-default (set l k 0) 0 (simp length-set (omega arith)) ]
-
-cleared-covered : (os ss : List ℕ) (o t i : ℕ) → Covered t ss (clearedAt os ss o t i)
-unfolding clearedAt
-cleared-covered os ss o t i = go (isCompleted (getD os i 0) (getD ss i 0) o t) refl
-  where
-    go : (b : Bool) → isCompleted (getD os i 0) (getD ss i 0) o t ≡ b → Covered t ss (cond b (set ss i 0) ss)
-    go false e = record { at = λ j. inl refl }
-    go true e = record { at = λ j. elim (ℕ-discrete j i) [ yes q ↦ inr (emptied j q, low j q) | no q ↦ inl (getD-set-other ss i j 0 0 q) ] }
-      where
-        low : (j : ℕ) → j ≡ i → getD ss j 0 ≤ t
-        low j q = rw q (completed-low (getD os i 0) (getD ss i 0) o t e)
-
-        emptied : (j : ℕ) → j ≡ i → getD (set ss i 0) j 0 ≡ 0
-        emptied j q = rw q (set-zero ss i)
-
-covered-twice : {t : ℕ} {a b c : List ℕ} → Covered t a b → Covered t b c → Covered t a c
-covered-twice {t} {a} {b} {c} f g = record { at = λ j. go j (f .at j) (g .at j) }
-  where
-    go : (j : ℕ) → (getD b j 0 ≡ getD a j 0) ⊎ ((getD b j 0 ≡ 0) × (getD a j 0 ≤ t)) → (getD c j 0 ≡ getD b j 0) ⊎ ((getD c j 0 ≡ 0) × (getD b j 0 ≤ t)) → (getD c j 0 ≡ getD a j 0) ⊎ ((getD c j 0 ≡ 0) × (getD a j 0 ≤ t))
-    go j (inl e) (inl d) = inl (d ∙ e)
-    go j (inl e) (inr d) = inr (d .0, omega (arith, d .1, e))
-    go j (inr e) (inl d) = inr (d ∙ e .0, e .1)
-    go j (inr e) (inr d) = inr (d .0, e .1)
-
-completed-covered : (w : Switch) (o t : ℕ) → Covered t (w .stamps) (completed w o t .stamps)
-unfolding completed
-completed-covered w o t =
-    covered-twice (cleared-covered (w .objects) (w .stamps) o t _)
-    (covered-twice (cleared-covered (w .objects) _ o t _) (cleared-covered (w .objects) _ o t _))
-
 -- look-up after a completion, of any object: the first mark above the larger of the two stamps
-pub lookup-completed : (w : Switch) (o t p : ℕ) → lookedUp (completed w o t) p ≡ markAbove w p (largerOf (w .committed) t)
-unfolding lookedUp markAbove completed
-lookup-completed w o t p =
-    rw (completed-committed w o t)
-    (first-same p (test (completed w o t)) (test w) (stampAt (completed w o t)) (stampAt w) 0 (λ j. same j (completed-covered w o t .at j)) (λ j e. found j e (completed-covered w o t .at j)))
+pub lookup-completed : (w : List ℕ) (o t p : ℕ) → SizedSwitch w → lookedUp (completed w o t) p ≡ markAbove w p (largerOf (committedIn w) t)
+unfolding lookedUp markAbove
+lookup-completed w o t p z =
+    rw (completed-committed w o t z)
+    (first-same p (test p c (completed w o t)) (test p c w) (slotStamp (completed w o t)) (slotStamp w) 0
+    (λ j m. same j m (stamp-completed w o t z j)) (λ j m e. found j e (stamp-completed w o t z j)))
   where
     c : ℕ
-    c = largerOf (w .committed) t
-
-    test : Switch → ℕ → Bool
-    test v j = holdsAbove (objectAt v j) (stampAt v j) p c
-
-    objects-stay : (j : ℕ) → objectAt (completed w o t) j ≡ objectAt w j
-    objects-stay j = refl
+    c = largerOf (committedIn w) t
 
     covers : t ≤ c
-    covers = omega (arith, larger-is (w .committed) t)
+    covers = omega (arith, larger-is (committedIn w) t)
 
-    same : (j : ℕ) → (stampAt (completed w o t) j ≡ stampAt w j) ⊎ ((stampAt (completed w o t) j ≡ 0) × (stampAt w j ≤ t)) → test (completed w o t) j ≡ test w j
-    same j (inl e) = rw (objects-stay j, e)
-    same j (inr e) =
-        rw (objects-stay j, e .0)
-        (not-above-unheld (objectAt w j) 0 p c (empty-holds-not (objectAt w j) p) ∙ sym (not-above-low (objectAt w j) (stampAt w j) p c (omega (arith, e .1, covers))))
+    Kept : ℕ → Type 0
+    Kept j = (slotStamp (completed w o t) j ≡ slotStamp w j) ⊎ ((slotStamp (completed w o t) j ≡ 0) × (slotStamp w j ≤ t))
 
-    found : (j : ℕ) → test (completed w o t) j ≡ true → (stampAt (completed w o t) j ≡ stampAt w j) ⊎ ((stampAt (completed w o t) j ≡ 0) × (stampAt w j ≤ t)) → stampAt (completed w o t) j ≡ stampAt w j
+    same : (j : ℕ) → Own p j → Kept j → test p c (completed w o t) j ≡ test p c w j
+    same j m (inl e) = rw (object-completed w o t z j (own-below p j m), e)
+    same j m (inr e) =
+        rw (object-completed w o t z j (own-below p j m), e .0)
+        (not-above-unheld (slotObject w j) 0 p c (empty-holds-not (slotObject w j) p) ∙ sym (not-above-low (slotObject w j) (slotStamp w j) p c (omega (arith, e .1, covers))))
+
+    found : (j : ℕ) → test p c (completed w o t) j ≡ true → Kept j → slotStamp (completed w o t) j ≡ slotStamp w j
     found j e (inl d) = d
     found j e (inr d) =
         absurd
-        (let y : true ≡ false = sym e ∙ ap (λ (s : ℕ). holdsAbove (objectAt (completed w o t) j) s p c) (d .0) ∙ not-above-unheld _ 0 p c (empty-holds-not _ p) in
+        (let y : true ≡ false = sym e ∙ ap (λ (s : ℕ). holdsAbove (slotObject (completed w o t) j) s p c) (d .0) ∙ not-above-unheld _ 0 p c (empty-holds-not _ p) in
         let x : _≡_ {A = ℕ} 0 1 = cc in omega arith)
 
 -- a mark that is above a raised last-committed stamp is still the one that is found
-raised : (w : Switch) (p c d : ℕ) → c ≤ d → isAbove (markAbove w p c) d ≡ true → markAbove w p d ≡ markAbove w p c
+raised : (w : List ℕ) (p c d : ℕ) → c ≤ d → isAbove (markAbove w p c) d ≡ true → markAbove w p d ≡ markAbove w p c
 unfolding markAbove
 raised w p c d l = go (firstSlot p) (go (secondSlot p) (go (thirdSlot p) (λ e. refl)))
   where
     at : ℕ → ℕ → Bool
-    at b j = holdsAbove (objectAt w j) (stampAt w j) p b
+    at b j = holdsAbove (slotObject w j) (slotStamp w j) p b
 
-    go : (j : ℕ) {x y : ℕ} → (isAbove x d ≡ true → y ≡ x) → isAbove (cond (at c j) (stampAt w j) x) d ≡ true → cond (at d j) (stampAt w j) y ≡ cond (at c j) (stampAt w j) x
+    go : (j : ℕ) {x y : ℕ} → (isAbove x d ≡ true → y ≡ x) → isAbove (cond (at c j) (slotStamp w j) x) d ≡ true → cond (at d j) (slotStamp w j) y ≡ cond (at c j) (slotStamp w j) x
     go j {x} {y} rest = by (at c j) (at d j) refl refl
       where
-        higher : at c j ≡ true → d < stampAt w j → at d j ≡ true
-        higher q g = above-of _ _ p d (above-holds _ _ p c q) (lt-above (stampAt w j) d g)
+        higher : at c j ≡ true → d < slotStamp w j → at d j ≡ true
+        higher q g = above-of _ _ p d (above-holds _ _ p c q) (lt-above (slotStamp w j) d g)
 
         lower : at d j ≡ true → at c j ≡ true
-        lower r = above-of _ _ p c (above-holds _ _ p d r) (lt-above (stampAt w j) c (omega (arith, above-stamp (objectAt w j) (stampAt w j) p d r)))
+        lower r = above-of _ _ p c (above-holds _ _ p d r) (lt-above (slotStamp w j) c (omega (arith, above-stamp (slotObject w j) (slotStamp w j) p d r)))
 
-        by : (a b : Bool) → at c j ≡ a → at d j ≡ b → isAbove (cond a (stampAt w j) x) d ≡ true → cond b (stampAt w j) y ≡ cond a (stampAt w j) x
+        by : (a b : Bool) → at c j ≡ a → at d j ≡ b → isAbove (cond a (slotStamp w j) x) d ≡ true → cond b (slotStamp w j) y ≡ cond a (slotStamp w j) x
         by true true q r e = refl
-        by true false q r e = absurd (let z : true ≡ false = sym (higher q (above-true (stampAt w j) d e)) ∙ r in let k : _≡_ {A = ℕ} 0 1 = cc in omega arith)
+        by true false q r e = absurd (let z : true ≡ false = sym (higher q (above-true (slotStamp w j) d e)) ∙ r in let k : _≡_ {A = ℕ} 0 1 = cc in omega arith)
         by false true q r e = absurd (let z : true ≡ false = sym (lower r) ∙ q in let k : _≡_ {A = ℕ} 0 1 = cc in omega arith)
         by false false q r e = rest e
 
 -- a counting mark is not lost by a completion, of whichever object, while it is above the completion's stamp
-pub lookup-kept : (w : Switch) (o t p : ℕ) → isAbove (lookedUp w p) (largerOf (w .committed) t) ≡ true → lookedUp (completed w o t) p ≡ lookedUp w p
+pub lookup-kept : (w : List ℕ) (o t p : ℕ) → SizedSwitch w → isAbove (lookedUp w p) (largerOf (committedIn w) t) ≡ true → lookedUp (completed w o t) p ≡ lookedUp w p
 unfolding lookedUp
-lookup-kept w o t p e = lookup-completed w o t p ∙ raised w p (w .committed) (largerOf (w .committed) t) (omega (arith, larger-is (w .committed) t)) e
+lookup-kept w o t p z e = lookup-completed w o t p z ∙ raised w p (committedIn w) (largerOf (committedIn w) t) (omega (arith, larger-is (committedIn w) t)) e
 
 -- ---- what look-up gives
 
 -- no mark, or one that counts
-pub lookup-counts : (w : Switch) (o : ℕ) → (lookedUp w o ≡ 0) ⊎ (isAbove (lookedUp w o) (w .committed) ≡ true)
+pub lookup-counts : (w : List ℕ) (o : ℕ) → (lookedUp w o ≡ 0) ⊎ (isAbove (lookedUp w o) (committedIn w) ≡ true)
 unfolding lookedUp markAbove
 lookup-counts w o = go (firstSlot o) (go (secondSlot o) (go (thirdSlot o) (inl refl)))
   where
-    go : (j : ℕ) {x : ℕ} → (x ≡ 0) ⊎ (isAbove x (w .committed) ≡ true)
-        → (cond (holdsAbove (objectAt w j) (stampAt w j) o (w .committed)) (stampAt w j) x ≡ 0) ⊎ (isAbove (cond (holdsAbove (objectAt w j) (stampAt w j) o (w .committed)) (stampAt w j) x) (w .committed) ≡ true)
-    go j {x} rest = by (holdsAbove (objectAt w j) (stampAt w j) o (w .committed)) refl
+    go : (j : ℕ) {x : ℕ} → (x ≡ 0) ⊎ (isAbove x (committedIn w) ≡ true)
+        → (cond (holdsAbove (slotObject w j) (slotStamp w j) o (committedIn w)) (slotStamp w j) x ≡ 0) ⊎ (isAbove (cond (holdsAbove (slotObject w j) (slotStamp w j) o (committedIn w)) (slotStamp w j) x) (committedIn w) ≡ true)
+    go j {x} rest = by (holdsAbove (slotObject w j) (slotStamp w j) o (committedIn w)) refl
       where
-        by : (b : Bool) → holdsAbove (objectAt w j) (stampAt w j) o (w .committed) ≡ b → (cond b (stampAt w j) x ≡ 0) ⊎ (isAbove (cond b (stampAt w j) x) (w .committed) ≡ true)
-        by true e = inr (lt-above _ _ (above-stamp (objectAt w j) (stampAt w j) o (w .committed) e))
+        by : (b : Bool) → holdsAbove (slotObject w j) (slotStamp w j) o (committedIn w) ≡ b → (cond b (slotStamp w j) x ≡ 0) ⊎ (isAbove (cond b (slotStamp w j) x) (committedIn w) ≡ true)
+        by true e = inr (lt-above _ _ (above-stamp (slotObject w j) (slotStamp w j) o (committedIn w) e))
         by false e = rest
 
 -- a new switch has no marks
-zeros : (n j : ℕ) → _≡_ {A = ℕ} (getD (replicate n 0) j 0) 0
-zeros zero j = refl
-zeros (suc n) zero = refl
-zeros (suc n) (suc j) = zeros n j
-
 pub lookup-new : (n o : ℕ) → lookedUp (newSwitch n) o ≡ 0
-unfolding lookedUp markAbove newSwitch
-lookup-new n o = first-none o (λ j. holdsAbove (objectAt (newSwitch n) j) (stampAt (newSwitch n) j) o 0) (stampAt (newSwitch n)) 0
-    (λ j m. rw (zeros 48 j) (not-above-unheld 0 0 o 0 (empty-holds-not 0 o)))
+unfolding lookedUp markAbove
+lookup-new n o =
+    first-none o (test o (committedIn (newSwitch n)) (newSwitch n)) (slotStamp (newSwitch n)) 0
+    (λ j m. rw (stamp-new n j) (not-above-unheld (slotObject (newSwitch n) j) 0 o _ (empty-holds-not _ o)))

@@ -6,252 +6,231 @@ use Prim.Native.Nat.{ℕ, _+_, _-_, _≤_, _<_}
 use native.Mathlib.Numerals.{add-one}
 use native.Mathlib.Omega.{arith}
 use lib.Dec.{leb, ltb}
-use lib.ListN.{length, getD, set, take, length-take, length-set, length-append, List·getD-eq-default}
+use lib.ListN.{length, getD, set, take, length-take, length-set}
 use lib.Seq.{getD-take, take-suc-set}
-use borrow.Author.Tests.{ltb-true, ltb-false, lt-ltb}
+use borrow.Author.Tests.{leb-true, leb-false, ltb-true, lt-ltb, le-ltb, le-leb}
 use Rattle.limits.specs as limits
 use Rattle.lists.specs.{moves, without}
 use Rattle.lists.proofs.Closing.{length-moves, length-without, take-moves}
 use Rattle.waiting.specs.declared.Packet.{Packet}
 use Rattle.waiting.specs.declared.Edit.{Edit}
-use Rattle.waiting.specs.Waiting.{WaitingList, waitingList, blank, placesIn, heldIn, places, held, waits, noneWait, lookAt, takenOut, putLast, added, afterTaking, edited}
+use Rattle.waiting.specs.Waiting.{WaitingList, waitingList, blank, heldIn, held, waits, noneWait, lookAt, takesOut, leftBy, fits, afterTaking, adding, edited, added}
 
--- a list holds no more packets than its row has places, and no more than 64
-pub held-in : (length count : ℕ) → (heldIn length count ≤ length) × (heldIn length count ≤ limits.waiting)
-unfolding heldIn placesIn
-held-in length count = (omega arith, omega arith)
+-- as many lent places as the list may use
+abbrev pub Roomy : WaitingList → Type 0
+Roomy w = limits.waiting ≤ length (w .packets)
 
--- a count that the places allow
-held-is : (length count : ℕ) → count ≤ placesIn length → heldIn length count ≡ count
-unfolding heldIn
-held-is length count h = omega arith
-
-places-in : (length : ℕ) → placesIn length ≤ length
-unfolding placesIn
-places-in length = omega arith
-
-pub held-within : (w : WaitingList) → held w ≤ length (w .packets)
-held-within w = held-in (length (w .packets)) (w .count) .0
+-- the count is how many wait
+abbrev pub Exact : WaitingList → Type 0
+Exact w = w .count ≤ limits.waiting
 
 pub held-most : (w : WaitingList) → held w ≤ limits.waiting
-held-most w = held-in (length (w .packets)) (w .count) .1
-
-pub held-places : (w : WaitingList) → held w ≤ places w
 unfolding heldIn
-held-places w = omega arith
+held-most w = omega arith
 
-pub length-waits : (w : WaitingList) → length (waits w) ≡ held w
-unfolding waits
-length-waits w = length-take (held w) (w .packets) ∙ omega (arith, held-within w)
-
--- no packet behind the last that waits is ever seen
-pub look-is : (w : WaitingList) (i : ℕ) → lookAt w i ≡ getD (waits w) i blank
-unfolding lookAt waits
-look-is w i = go (ltb i (held w)) refl
-  where
-    go : (t : Bool) → ltb i (held w) ≡ t → cond (ltb i (held w)) (getD (w .packets) i blank) blank ≡ getD (waits w) i blank
-    go true e = rw e (sym (getD-take (held w) (w .packets) i blank (ltb-true i (held w) e)))
-    go false e = rw e (sym (List·getD-eq-default (waits w) blank (omega (arith, length-waits w, ltb-false i (held w) e))))
-
-pub waits-none : (row : List Packet) → waits (noneWait row) ≡ []
-unfolding waits noneWait heldIn
-waits-none row =
-    let none : held (noneWait row) ≡ 0 = omega arith in
-    ap (λ (k : ℕ). take k row) none
-
--- the two operations where their tests pass
-put-is : (w : WaitingList) (p : Packet) → held w < places w → putLast w p ≡ waitingList (set (w .packets) (held w) p) (held w + 1)
-unfolding putLast
-put-is w p h = rw (lt-ltb (held w) (places w) h)
-
-taken-is : (w : WaitingList) (at : ℕ) → at < held w → takenOut w at ≡ waitingList (moves blank (w .packets) at (held w - 1 - at)) (held w - 1)
-unfolding takenOut
-taken-is w at h = rw (lt-ltb at (held w) h)
-
--- what waits in a row of the same length, at a count that its places allow
-waits-at : (w : WaitingList) (l : List Packet) (n : ℕ) → length l ≡ length (w .packets) → n ≤ places w → waits (waitingList l n) ≡ take n l
-unfolding waits
-waits-at w l n e h = ap (λ (k : ℕ). take k l) (ap (λ (k : ℕ). heldIn k n) e ∙ held-is (length (w .packets)) n h)
-
--- 'New packets go to the end', where there is room
-pub waits-put : (w : WaitingList) (p : Packet) → held w < places w → waits (putLast w p) ≡ waits w ++ p ∷ []
-unfolding waits
-waits-put w p h =
-    ap waits (put-is w p h) ∙
-    waits-at w (set (w .packets) (held w) p) (held w + 1) (length-set (w .packets) (held w) p) (omega arith) ∙
-    rw add-one (take-suc-set (w .packets) (held w) p (omega (arith, places-in (length (w .packets)))))
-
--- taking a packet out leaves the others, in their order
-pub waits-taken : (w : WaitingList) (at : ℕ) → at < held w → waits (takenOut w at) ≡ without (waits w) at
-unfolding waits
-waits-taken w at h =
-    ap waits (taken-is w at h) ∙
-    waits-at w (moves blank (w .packets) at (held w - 1 - at)) (held w - 1) (length-moves blank (w .packets) at (held w - 1 - at)) (omega (arith, held-places w)) ∙
-    take-moves blank (w .packets) (held w) at h (held-within w)
-
--- how many wait afterwards
-pub held-none : (row : List Packet) → held (noneWait row) ≡ 0
-held-none row = sym (length-waits (noneWait row)) ∙ ap length (waits-none row)
-
-pub held-put : (w : WaitingList) (p : Packet) → held w < places w → held (putLast w p) ≡ held w + 1
-held-put w p h = sym (length-waits (putLast w p)) ∙ ap length (waits-put w p h) ∙ simp (length-append, length-waits)
-
-pub held-taken : (w : WaitingList) (at : ℕ) → at < held w → held (takenOut w at) ≡ held w - 1
-held-taken w at h =
-    sym (length-waits (takenOut w at)) ∙
-    ap length (waits-taken w at h) ∙
-    length-without (waits w) at (omega (arith, length-waits w)) ∙
-    ap (λ (n : ℕ). n - 1) (length-waits w)
-
--- the row keeps its length
-places-put : (w : WaitingList) (p : Packet) → length (putLast w p .packets) ≡ length (w .packets)
-unfolding putLast
-places-put w p = go (ltb (held w) (places w))
-  where
-    go : (t : Bool) → length (cond t (waitingList (set (w .packets) (held w) p) (held w + 1)) w .packets) ≡ length (w .packets)
-    go true = length-set (w .packets) (held w) p
-    go false = refl
-
-places-taken : (w : WaitingList) (at : ℕ) → length (takenOut w at .packets) ≡ length (w .packets)
-unfolding takenOut
-places-taken w at = go (ltb at (held w))
-  where
-    go : (t : Bool) →
-        length (cond t (waitingList (moves blank (w .packets) at (held w - 1 - at)) (held w - 1)) w .packets) ≡ length (w .packets)
-    go true = length-moves blank (w .packets) at (held w - 1 - at)
-    go false = refl
-
--- the second half of an edit, of any list that the first half leaves
-adding : WaitingList → Edit → WaitingList
-adding v e = cond (leb 1 (e .add)) (cond (leb 2 (e .add)) (putLast (putLast v (e .first)) (e .second)) (putLast v (e .first))) v
-
-edited-is : (w : WaitingList) (e : Edit) → edited w e ≡ adding (afterTaking w e) e
-unfolding edited adding
-edited-is w e = refl
-
--- what the first half leaves
-keeps : (w : WaitingList) (e : Edit) → e .take ≡ false → afterTaking w e ≡ w
-unfolding afterTaking
-keeps w e t = rw t
-
-takes : (w : WaitingList) (e : Edit) → e .take ≡ true → afterTaking w e ≡ takenOut w (e .at)
-unfolding afterTaking
-takes w e t = rw t
-
--- the packets that an edit adds come to the end, in their order
-waits-adding : (v : WaitingList) (e : Edit) → length (waits v ++ added e) ≤ places v →
-    waits (adding v e) ≡ waits v ++ added e
-unfolding added adding
-waits-adding v e = go (leb 1 (e .add)) (leb 2 (e .add))
-  where
-    new : Bool → Bool → List Packet
-    new s t = cond s (e .first ∷ cond t (e .second ∷ []) []) []
-
-    go : (s t : Bool) → length (waits v ++ new s t) ≤ places v →
-        waits (cond s (cond t (putLast (putLast v (e .first)) (e .second)) (putLast v (e .first))) v) ≡ waits v ++ new s t
-    go false t h = sym (append-nil (waits v))
-    go true false h = waits-put v (e .first) (omega (arith, length-waits v, length-append (waits v) (e .first ∷ [])))
-    go true true h =
-        let room : held v + 2 ≤ places v = omega (arith, length-waits v, length-append (waits v) (e .first ∷ e .second ∷ [])) in
-        let one : held v < places v = omega arith in
-        let two : held (putLast v (e .first)) < places (putLast v (e .first)) =
-        omega (arith, held-put v (e .first) one, ap placesIn (places-put v (e .first))) in
-        waits-put (putLast v (e .first)) (e .second) two ∙
-        ap (λ (l : List Packet). l ++ e .second ∷ []) (waits-put v (e .first) one) ∙
-        append-assoc (waits v) (e .first ∷ []) (e .second ∷ [])
-
--- an edit that takes no packet out, where what waits afterwards has room
-pub waits-edited-keeping : (w : WaitingList) (e : Edit) → e .take ≡ false →
-    length (waits w ++ added e) ≤ places w → waits (edited w e) ≡ waits w ++ added e
-waits-edited-keeping w e t h = rw (edited-is w e, keeps w e t) (waits-adding w e h)
-
--- an edit that takes one out, where what waits afterwards has room
-pub waits-edited-taking : (w : WaitingList) (e : Edit) → e .take ≡ true → e .at < held w →
-    length (without (waits w) (e .at) ++ added e) ≤ places w →
-    waits (edited w e) ≡ without (waits w) (e .at) ++ added e
-waits-edited-taking w e t h k =
-    let left : waits (takenOut w (e .at)) ≡ without (waits w) (e .at) = waits-taken w (e .at) h in
-    rw (edited-is w e, takes w e t, ← left) (waits-adding (takenOut w (e .at)) e (rw (left, places-taken w (e .at)) k))
-
-places-adding : (v : WaitingList) (e : Edit) → length (adding v e .packets) ≡ length (v .packets)
-unfolding adding
-places-adding v e = go (leb 1 (e .add)) (leb 2 (e .add))
-  where
-    go : (s t : Bool) →
-        length (cond s (cond t (putLast (putLast v (e .first)) (e .second)) (putLast v (e .first))) v .packets) ≡ length (v .packets)
-    go false t = refl
-    go true false = places-put v (e .first)
-    go true true = places-put (putLast v (e .first)) (e .second) ∙ places-put v (e .first)
-
-places-edited : (w : WaitingList) (e : Edit) → length (edited w e .packets) ≡ length (w .packets)
-places-edited w e = rw (edited-is w e) (places-adding (afterTaking w e) e ∙ kept (e .take) refl)
-  where
-    kept : (t : Bool) → e .take ≡ t → length (afterTaking w e .packets) ≡ length (w .packets)
-    kept true t = rw (takes w e t) (places-taken w (e .at))
-    kept false t = rw (keeps w e t)
-
--- an edit that takes no packet out and adds none changes nothing
-pub edited-none : (w : WaitingList) (e : Edit) → e .take ≡ false → e .add ≡ 0 → edited w e ≡ w
-unfolding adding
-edited-none w e t n = rw (edited-is w e, keeps w e t, n)
-
--- the count is how many wait: no larger than the places allow
-abbrev pub Exact : WaitingList → Type 0
-Exact w = w .count ≤ places w
+pub held-is : (count : ℕ) → count ≤ limits.waiting → heldIn count ≡ count
+unfolding heldIn
+held-is count h = omega arith
 
 pub exact-held : (w : WaitingList) → Exact w → w .count ≡ held w
-exact-held w x = sym (held-is (length (w .packets)) (w .count) x)
+exact-held w x = sym (held-is (w .count) x)
+
+pub length-waits : (w : WaitingList) → Roomy w → length (waits w) ≡ held w
+unfolding waits
+length-waits w h = length-take (held w) (w .packets) ∙ omega (arith, held-most w)
+
+-- the packet at a place where one waits
+pub look-is : (w : WaitingList) (i : ℕ) → i < held w → lookAt (w .packets) i ≡ getD (waits w) i blank
+unfolding lookAt waits
+look-is w i h = sym (getD-take (held w) (w .packets) i blank h)
+
+-- ---- none waits
+
+pub held-none : (row : List Packet) → held (noneWait row) ≡ 0
+unfolding noneWait heldIn
+held-none row = omega arith
+
+pub waits-none : (row : List Packet) → waits (noneWait row) ≡ []
+unfolding waits noneWait
+waits-none row = ap (λ (k : ℕ). take k row) (held-none row)
 
 pub exact-none : (row : List Packet) → Exact (noneWait row)
 unfolding noneWait
 exact-none row = omega arith
 
-exact-put : (w : WaitingList) (p : Packet) → Exact w → Exact (putLast w p)
-unfolding putLast
-exact-put w p x = go (ltb (held w) (places w)) refl
-  where
-    go : (t : Bool) → ltb (held w) (places w) ≡ t → Exact (cond t (waitingList (set (w .packets) (held w) p) (held w + 1)) w)
-    go true e = rw (length-set (w .packets) (held w) p) (omega (arith, ltb-true (held w) (places w) e))
-    go false e = x
+-- ---- an edit
 
-exact-taken : (w : WaitingList) (at : ℕ) → Exact w → Exact (takenOut w at)
-unfolding takenOut
-exact-taken w at x = go (ltb at (held w))
+-- an edit that does not fit changes nothing
+edited-not : (w : WaitingList) (e : Edit) → fits (length (w .packets)) (leftBy (w .count) e) (e .add) ≡ false → edited w e ≡ w
+unfolding edited
+edited-not w e f = rw f
+
+edited-fits : (w : WaitingList) (e : Edit) → fits (length (w .packets)) (leftBy (w .count) e) (e .add) ≡ true →
+    edited w e ≡ waitingList (adding (afterTaking w e) (leftBy (w .count) e) e) (leftBy (w .count) e + e .add)
+unfolding edited
+edited-fits w e f = rw f
+
+-- with fewer than 64 places none fits
+short-fits : (length left add : ℕ) → length < limits.waiting → fits length left add ≡ false
+unfolding fits
+short-fits length left add h = rw (lt-ltb length limits.waiting h)
+
+roomy-fits : (length left add : ℕ) → limits.waiting ≤ length → left + add ≤ limits.waiting → fits length left add ≡ true
+unfolding fits
+roomy-fits length left add h k = rw (le-ltb length limits.waiting h, le-leb (left + add) limits.waiting k)
+
+fits-within : (length left add : ℕ) → fits length left add ≡ true → left + add ≤ limits.waiting
+unfolding fits
+fits-within length left add = go (ltb length limits.waiting)
   where
-    go : (t : Bool) → Exact (cond t (waitingList (moves blank (w .packets) at (held w - 1 - at)) (held w - 1)) w)
-    go true = rw (length-moves blank (w .packets) at (held w - 1 - at)) (omega (arith, held-places w))
-    go false = x
+    go : (t : Bool) → cond t false (leb (left + add) limits.waiting) ≡ true → left + add ≤ limits.waiting
+    go true e = absurd (let z : _≡_ {A = ℕ} 0 1 = cc in omega arith)
+    go false e = leb-true (left + add) limits.waiting e
+
+pub edited-short : (w : WaitingList) (e : Edit) → length (w .packets) < limits.waiting → edited w e ≡ w
+edited-short w e h = edited-not w e (short-fits (length (w .packets)) (leftBy (w .count) e) (e .add) h)
+
+-- what goes out, or that none does
+takes-not : (count : ℕ) (e : Edit) → e .take ≡ false → takesOut count e ≡ false
+unfolding takesOut
+takes-not count e t = rw t
+
+takes-one : (count : ℕ) (e : Edit) → e .take ≡ true → e .at < heldIn count → takesOut count e ≡ true
+unfolding takesOut
+takes-one count e t h = rw (t, lt-ltb (e .at) (heldIn count) h)
+
+left-all : (count : ℕ) (e : Edit) → e .take ≡ false → leftBy count e ≡ count
+unfolding leftBy
+left-all count e t = rw (takes-not count e t)
+
+left-one : (count : ℕ) (e : Edit) → e .take ≡ true → e .at < heldIn count → leftBy count e ≡ heldIn count - 1
+unfolding leftBy
+left-one count e t h = rw (takes-one count e t h)
+
+after-all : (w : WaitingList) (e : Edit) → e .take ≡ false → afterTaking w e ≡ w .packets
+unfolding afterTaking
+after-all w e t = rw (takes-not (w .count) e t)
+
+after-one : (w : WaitingList) (e : Edit) → e .take ≡ true → e .at < held w → afterTaking w e ≡ moves blank (w .packets) (e .at) (held w - 1 - e .at)
+unfolding afterTaking
+after-one w e t h = rw (takes-one (w .count) e t h)
+
+adds-none : (l : List Packet) (k : ℕ) (e : Edit) → e .add ≡ 0 → adding l k e ≡ l
+unfolding adding
+adds-none l k e n = rw n
+
+-- an edit that takes no packet out and adds none changes nothing
+pub edited-none : (w : WaitingList) (e : Edit) → e .take ≡ false → e .add ≡ 0 → edited w e ≡ w
+edited-none w e t n = go (fits (length (w .packets)) (leftBy (w .count) e) (e .add)) refl
+  where
+    row : adding (afterTaking w e) (leftBy (w .count) e) e ≡ w .packets
+    row = adds-none (afterTaking w e) (leftBy (w .count) e) e n ∙ after-all w e t
+
+    count : leftBy (w .count) e + e .add ≡ w .count
+    count = omega (arith, left-all (w .count) e t, n)
+
+    go : (b : Bool) → fits (length (w .packets)) (leftBy (w .count) e) (e .add) ≡ b → edited w e ≡ w
+    go true f = edited-fits w e f ∙ λ j. waitingList (row j) (count j)
+    go false f = edited-not w e f
+
+-- ---- the row keeps its length
+
+length-adding : (l : List Packet) (n : ℕ) (e : Edit) → length (adding l n e) ≡ length l
+unfolding adding
+length-adding l n e = go (leb 1 (e .add)) (leb 2 (e .add))
+  where
+    go : (s t : Bool) → length (cond s (cond t (set (set l n (e .first)) (n + 1) (e .second)) (set l n (e .first))) l) ≡ length l
+    go false t = refl
+    go true false = length-set l n (e .first)
+    go true true = length-set (set l n (e .first)) (n + 1) (e .second) ∙ length-set l n (e .first)
+
+length-after : (w : WaitingList) (e : Edit) → length (afterTaking w e) ≡ length (w .packets)
+unfolding afterTaking
+length-after w e = go (takesOut (w .count) e)
+  where
+    go : (t : Bool) → length (cond t (moves blank (w .packets) (e .at) (held w - 1 - e .at)) (w .packets)) ≡ length (w .packets)
+    go true = length-moves blank (w .packets) (e .at) (held w - 1 - e .at)
+    go false = refl
+
+pub length-edited : (w : WaitingList) (e : Edit) → length (edited w e .packets) ≡ length (w .packets)
+length-edited w e = go (fits (length (w .packets)) (leftBy (w .count) e) (e .add)) refl
+  where
+    go : (b : Bool) → fits (length (w .packets)) (leftBy (w .count) e) (e .add) ≡ b → length (edited w e .packets) ≡ length (w .packets)
+    go true f = rw (edited-fits w e f) (length-adding (afterTaking w e) (leftBy (w .count) e) e ∙ length-after w e)
+    go false f = ap (λ (v : WaitingList). length (v .packets)) (edited-not w e f)
 
 pub exact-edited : (w : WaitingList) (e : Edit) → Exact w → Exact (edited w e)
-unfolding edited afterTaking
-exact-edited w e x = go (leb 1 (e .add)) (leb 2 (e .add)) (afterTaking w e) (left (e .take))
+exact-edited w e x = go (fits (length (w .packets)) (leftBy (w .count) e) (e .add)) refl
   where
-    left : (t : Bool) → Exact (cond t (takenOut w (e .at)) w)
-    left true = exact-taken w (e .at) x
-    left false = x
+    go : (b : Bool) → fits (length (w .packets)) (leftBy (w .count) e) (e .add) ≡ b → Exact (edited w e)
+    go true f = rw (edited-fits w e f) (fits-within (length (w .packets)) (leftBy (w .count) e) (e .add) f)
+    go false f = rw (edited-not w e f) x
 
-    go : (s t : Bool) (v : WaitingList) → Exact v → Exact (cond s (cond t (putLast (putLast v (e .first)) (e .second)) (putLast v (e .first))) v)
-    go false t v y = y
-    go true false v y = exact-put v (e .first) y
-    go true true v y = exact-put (putLast v (e .first)) (e .second) (exact-put v (e .first) y)
+-- ---- what waits afterwards
 
--- as many places as a run needs
-abbrev pub Sized : WaitingList → Type 0
-Sized w = limits.waiting ≤ length (w .packets)
+-- one packet put behind the first n, which then has n + 1
+take-put : (l : List Packet) (n : ℕ) (p : Packet) → n < length l → take (n + 1) (set l n p) ≡ take n l ++ p ∷ []
+take-put l n p h = rw add-one (take-suc-set l n p h)
 
-pub places-sized : (w : WaitingList) → Sized w → places w ≡ limits.waiting
-unfolding placesIn
-places-sized w s = omega arith
+-- the packets that an edit adds come to the end, in their order
+take-adding : (l : List Packet) (n : ℕ) (e : Edit) → e .add ≤ 2 → n + e .add ≤ length l → take (n + e .add) (adding l n e) ≡ take n l ++ added e
+unfolding adding added
+take-adding l n e most h = go (leb 1 (e .add)) (leb 2 (e .add)) refl refl
+  where
+    go : (s t : Bool) → leb 1 (e .add) ≡ s → leb 2 (e .add) ≡ t →
+        take (n + e .add) (cond s (cond t (set (set l n (e .first)) (n + 1) (e .second)) (set l n (e .first))) l) ≡
+        take n l ++ cond s (e .first ∷ cond t (e .second ∷ []) []) []
+    go false t a b =
+        let none : n + e .add ≡ n = omega (arith, leb-false 1 (e .add) a) in
+        ap (λ (k : ℕ). take k l) none ∙ sym (append-nil (take n l))
+    go true false a b =
+        let one : n + e .add ≡ n + 1 = omega (arith, leb-true 1 (e .add) a, leb-false 2 (e .add) b) in
+        ap (λ (k : ℕ). take k (set l n (e .first))) one ∙ take-put l n (e .first) (omega arith)
+    go true true a b =
+        let two : n + e .add ≡ n + 1 + 1 = omega (arith, leb-true 2 (e .add) b) in
+        ap (λ (k : ℕ). take k (set (set l n (e .first)) (n + 1) (e .second))) two ∙
+        take-put (set l n (e .first)) (n + 1) (e .second) (rw (length-set l n (e .first)) (omega arith)) ∙
+        ap (λ (k : List Packet). k ++ e .second ∷ []) (take-put l n (e .first) (omega arith)) ∙
+        append-assoc (take n l) (e .first ∷ []) (e .second ∷ [])
 
-pub sized-none : (row : List Packet) → limits.waiting ≤ length row → Sized (noneWait row)
-unfolding noneWait
-sized-none row s = s
+-- what waits after an edit that fits
+waits-edited : (w : WaitingList) (e : Edit) → Roomy w → e .add ≤ 2 → leftBy (w .count) e + e .add ≤ limits.waiting →
+    waits (edited w e) ≡ take (leftBy (w .count) e) (afterTaking w e) ++ added e
+unfolding waits
+waits-edited w e r most h =
+    ap waits (edited-fits w e (roomy-fits (length (w .packets)) (leftBy (w .count) e) (e .add) r h)) ∙
+    ap (λ (k : ℕ). take k (adding (afterTaking w e) (leftBy (w .count) e) e)) (held-is (leftBy (w .count) e + e .add) h) ∙
+    take-adding (afterTaking w e) (leftBy (w .count) e) e most (omega (arith, length-after w e))
 
-pub sized-put : (w : WaitingList) (p : Packet) → Sized w → Sized (putLast w p)
-sized-put w p s = omega (arith, places-put w p)
+-- an edit that takes no packet out
+pub waits-edited-keeping : (w : WaitingList) (e : Edit) → Roomy w → Exact w → e .take ≡ false → e .add ≤ 2 → held w + e .add ≤ limits.waiting →
+    waits (edited w e) ≡ waits w ++ added e
+unfolding waits
+waits-edited-keeping w e r x t most h =
+    let all : leftBy (w .count) e ≡ held w = left-all (w .count) e t ∙ exact-held w x in
+    waits-edited w e r most (omega (arith, all)) ∙ rw (all, after-all w e t)
 
-pub sized-taken : (w : WaitingList) (at : ℕ) → Sized w → Sized (takenOut w at)
-sized-taken w at s = omega (arith, places-taken w at)
+-- an edit that takes one out
+pub waits-edited-taking : (w : WaitingList) (e : Edit) → Roomy w → e .take ≡ true → e .at < held w → e .add ≤ 2 → held w - 1 + e .add ≤ limits.waiting →
+    waits (edited w e) ≡ without (waits w) (e .at) ++ added e
+unfolding waits
+waits-edited-taking w e r t k most h =
+    let one : leftBy (w .count) e ≡ held w - 1 = left-one (w .count) e t k in
+    waits-edited w e r most (omega (arith, one)) ∙
+    rw (one, after-one w e t k)
+    (ap (λ (l : List Packet). l ++ added e) (take-moves blank (w .packets) (held w) (e .at) k (omega (arith, held-most w))))
 
-pub sized-edited : (w : WaitingList) (e : Edit) → Sized w → Sized (edited w e)
-sized-edited w e s = omega (arith, places-edited w e)
+-- how many wait afterwards
+pub held-edited-keeping : (w : WaitingList) (e : Edit) → Roomy w → Exact w → e .take ≡ false → held w + e .add ≤ limits.waiting →
+    held (edited w e) ≡ held w + e .add
+held-edited-keeping w e r x t h =
+    let all : leftBy (w .count) e ≡ held w = left-all (w .count) e t ∙ exact-held w x in
+    ap held (edited-fits w e (roomy-fits (length (w .packets)) (leftBy (w .count) e) (e .add) r (omega (arith, all)))) ∙
+    held-is (leftBy (w .count) e + e .add) (omega (arith, all)) ∙ omega (arith, all)
+
+pub held-edited-taking : (w : WaitingList) (e : Edit) → Roomy w → e .take ≡ true → e .at < held w → held w - 1 + e .add ≤ limits.waiting →
+    held (edited w e) ≡ held w - 1 + e .add
+held-edited-taking w e r t k h =
+    let one : leftBy (w .count) e ≡ held w - 1 = left-one (w .count) e t k in
+    ap held (edited-fits w e (roomy-fits (length (w .packets)) (leftBy (w .count) e) (e .add) r (omega (arith, one)))) ∙
+    held-is (leftBy (w .count) e + e .add) (omega (arith, one)) ∙ omega (arith, one)

@@ -64,20 +64,19 @@ module _ {M : Type 1} (𝓤 : URA M) (H : Heap 𝓤) (A : Atoms 𝓤) (W : Given
   module _ (κ : Lft) (q : Share) (δ : GName) (l : List Packet) (n : ℕ) where
     -- ---- look
     abbrev pub to-look : ℕ → Looking 𝓤 H A mem run .Ghost
-    to-look i = (((κ, tt), (q, tt), tt, (lent b o δ l, (n, (i, tt))), (lent-val b o l ∷ [], (vint w64 n ∷ [], (vint w64 i ∷ [], tt)))), tt)
+    to-look i = (((κ, tt), (q, tt), tt, (lent b o δ l, (i, tt)), (lent-val b o l ∷ [], (vint w64 i ∷ [], tt))), tt)
 
-    pub goes-look : (i : ℕ) → n < 2 ^ 64 → i < 2 ^ 64 → ent 𝓤 (sep 𝓤 (A .lft κ q) (sem 𝓤 H A (Lent b o κ δ l))) (Looking 𝓤 H A mem run .pre (to-look i))
-    goes-look i gn gi =
-        qed W (‵ (flft κ q) ∷ ‵ (Lent b o κ δ l) ∷ []) ∵ nothing ! $ owned ! usize (Is usize) (uint-makes 𝓤 H A W w64) i _ (refl, gi) $ fjoin ! $
-        owned ! usize (Is usize) (uint-makes 𝓤 H A W w64) n _ (refl, gn) $ fjoin ! $ move ! (2 ∷ 0 ∷ []) $ fjoin ! $ nothing ! $ move ! (2 ∷ 0 ∷ []) $ join ! $ join ! $ frame ! $ done !
+    pub goes-look : (i : ℕ) → i < 2 ^ 64 → ent 𝓤 (sep 𝓤 (A .lft κ q) (sem 𝓤 H A (Lent b o κ δ l))) (Looking 𝓤 H A mem run .pre (to-look i))
+    goes-look i gi =
+        qed W (‵ (flft κ q) ∷ ‵ (Lent b o κ δ l) ∷ []) ∵ nothing ! $ owned ! usize (Is usize) (uint-makes 𝓤 H A W w64) i _ (refl, gi) $ fjoin ! $ move ! (2 ∷ 0 ∷ []) $ fjoin ! $ nothing ! $ move ! (2 ∷ 0 ∷ []) $ join ! $ join ! $ frame ! $ done !
 
     pub gives-look : (i : ℕ) (w : Val) → ent 𝓤 (Looking 𝓤 H A mem run .post (to-look i) w)
-        (H .⇛ (guard 𝓤 (Is T.the-row (lookAt (waitingList l n) i) (w ∷ [])) (sep 𝓤 (A .lft κ q) (sem 𝓤 H A (finally T.the-row δ l)))))
+        (H .⇛ (guard 𝓤 (Is T.the-row (lookAt l i) (w ∷ [])) (sep 𝓤 (A .lft κ q) (sem 𝓤 H A (finally T.the-row δ l)))))
     gives-look i w =
-        let p : Packet = lookAt (waitingList l n) i in
+        let p : Packet = lookAt l i in
         qed W (raw (Looking 𝓤 H A mem run .post (to-look i) w) ∷ []) ∵ updating ! $
-        use1 W (later (some (λ (v : Packet). ((‵ (flft κ q) ⊛ ‵ ftrue) ⊛ ‵ (T.the-row .own v (w ∷ []))) ⊛ raw (ensured 𝓤 H A look.ended (look.clauses 𝓤 H A mem run) (κ, tt) (lent b o δ l, (n, (i, tt))) tt v)))) (id⊢ 𝓤 _) $ await ! tt $ pick ! (λ v.
-        split ! $ move ! (1 ∷ []) $ use1 W (some (λ (ws : List Packet × (Unit {0} × (Unit {0} × Unit {0}))). ‵ (lasts look.ended (κ, tt) (lent b o δ l, (n, (i, tt))) ws) ⊛ raw (fact 𝓤 ((v ≡ p) × (ws .0 ≡ l))))) (id⊢ 𝓤 _) $ pick ! (λ ws.
+        use1 W (later (some (λ (v : Packet). ((‵ (flft κ q) ⊛ ‵ ftrue) ⊛ ‵ (T.the-row .own v (w ∷ []))) ⊛ raw (ensured 𝓤 H A look.ended (look.clauses 𝓤 H A mem run) (κ, tt) (lent b o δ l, (i, tt)) tt v)))) (id⊢ 𝓤 _) $ await ! tt $ pick ! (λ v.
+        split ! $ move ! (1 ∷ []) $ use1 W (some (λ (ws : List Packet × (Unit {0} × Unit {0})). ‵ (lasts look.ended (κ, tt) (lent b o δ l, (i, tt)) ws) ⊛ raw (fact 𝓤 ((v ≡ p) × (ws .0 ≡ l))))) (id⊢ 𝓤 _) $ pick ! (λ ws.
         split ! $ move ! (1 ∷ []) $ heard ! ((v ≡ p) × (ws .0 ≡ l)) (λ is. fsplit ! $ fsplit ! $ move ! (1 ∷ []) $ feqL ! (λ same.
         rewrite ! 0 (λ (k : List Packet). ‵ (finally T.the-row δ k)) (is .1) refl $ move ! (2 ∷ []) $ split ! $ move ! (1 ∷ []) $ peeks ! T.the-row (Is T.the-row) (shows 𝓤 H A T.the-row) v (w ∷ []) (λ iw.
         -- [the result; the token; the last row; …]

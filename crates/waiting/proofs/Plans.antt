@@ -1,21 +1,21 @@
 -- A plan followed is the edit done: the code's numbers and `edited` say the same, of every row and every count.
-use mathlib.Core.Path.{_≡_, refl, ap, _∙_}
+use mathlib.Core.Path.{_≡_, refl, sym, ap, _∙_}
 use mathlib.Core.Bool.{Bool, true, false, cond}
 use mathlib.Core.List.{List, [], _∷_}
-use Prim.Native.Nat.{ℕ, zero, suc, _+_, _-_, _≤_}
+use Prim.Native.Nat.{ℕ, zero, suc, _+_, _-_, _≤_, _<_}
 use native.Mathlib.Nat.{not-suc-le-zero, le-of-suc-le-suc}
 use native.Mathlib.Omega.{arith}
 use lib.Dec.{leb, ltb}
-use lib.ListN.{length, getD, set, length-set, List·getD-eq-default}
-use borrow.Author.Tests.{leb-true, leb-false}
+use lib.ListN.{length, set, length-set}
+use borrow.Author.Tests.{leb-true, leb-false, ltb-true, ltb-false, le-leb, lt-leb}
+use Rattle.limits.specs as limits
 use Rattle.lists.specs.{moves}
 use Rattle.lists.proofs.Closing.{length-moves}
 use Rattle.waiting.specs.declared.Packet.{Packet}
 use Rattle.waiting.specs.declared.Edit.{Edit}
-use Rattle.waiting.specs.declared.Span.{Span}
-use Rattle.waiting.specs.declared.Spot.{Spot}
-use Rattle.waiting.specs.Waiting.{WaitingList, waitingList, blank, heldIn, held, places, lookAt, takenOut, putLast, afterTaking, edited}
-use Rattle.waiting.specs.Plans.{placeOf, still, spanOf, spotOf, planOf, carried}
+use Rattle.waiting.specs.declared.Plan.{Plan}
+use Rattle.waiting.specs.Waiting.{WaitingList, waitingList, blank, heldIn, takesOut, leftBy, fits, afterTaking, adding, edited}
+use Rattle.waiting.specs.Plans.{still, moving, planOf, carried}
 
 -- past the end `set` changes nothing
 pub set-past : (l : List Packet) (i : ℕ) (p : Packet) → length l ≤ i → l ≡ set l i p
@@ -23,85 +23,99 @@ set-past [] i p h = refl
 set-past (x ∷ xs) zero p h = absurd (not-suc-le-zero h)
 set-past (x ∷ xs) (suc i) p h = ap (λ (t : List Packet). x ∷ t) (set-past xs i p (le-of-suc-le-suc h))
 
--- what stands at the place of a position
-pub place-looks : (l : List Packet) (n i : ℕ) → getD l (placeOf (length l) n i) blank ≡ lookAt (waitingList l n) i
-unfolding placeOf lookAt
-place-looks l n i = go (ltb i (heldIn (length l) n))
+-- how many are left where one goes out
+pub left-taken : (count : ℕ) (e : Edit) → takesOut count e ≡ true → (leftBy count e ≡ heldIn count - 1) × (e .at < heldIn count)
+unfolding leftBy takesOut
+left-taken count e t = (rw t, at-held (e .take) t)
   where
-    go : (t : Bool) → getD l (cond t i (length l)) blank ≡ cond t (getD l i blank) blank
-    go true = refl
-    go false = List·getD-eq-default l blank (omega arith)
+    at-held : (b : Bool) → cond b (ltb (e .at) (heldIn count)) false ≡ true → e .at < heldIn count
+    at-held true s = ltb-true (e .at) (heldIn count) s
+    at-held false s = absurd (let z : _≡_ {A = ℕ} 0 1 = cc in omega arith)
 
--- the list after the moves of a span
-abbrev moved : List Packet → Span → WaitingList
-moved l s = waitingList (moves blank l (s .from) (s .last - s .from)) (s .left)
+-- the moves of a plan
+abbrev moved : List Packet → ℕ → Edit → List Packet
+moved l n e = moves blank l (cond (takesOut n e) (e .at) 0) (cond (takesOut n e) (leftBy n e) 0 - cond (takesOut n e) (e .at) 0)
 
-span-takes : (l : List Packet) (n : ℕ) (e : Edit) → afterTaking (waitingList l n) e ≡ moved l (spanOf (length l) n (e .take) (e .at))
-unfolding afterTaking takenOut spanOf moves
-span-takes l n e = go (e .take) (ltb (e .at) (heldIn (length l) n))
+plan-moves : (l : List Packet) (n : ℕ) (e : Edit) → afterTaking (waitingList l n) e ≡ moved l n e
+unfolding afterTaking moves
+plan-moves l n e = go (takesOut n e) refl
   where
-    h : ℕ
-    h = heldIn (length l) n
+    go : (t : Bool) → takesOut n e ≡ t → cond (takesOut n e) (moves blank l (e .at) (heldIn n - 1 - e .at)) l ≡ moved l n e
+    go true t = rw t (ap (λ (k : ℕ). moves blank l (e .at) (k - e .at)) (sym (left-taken n e t .0)))
+    go false t = rw t
 
-    go : (t u : Bool) →
-        cond t (cond u (waitingList (moves blank l (e .at) (h - 1 - e .at)) (h - 1)) (waitingList l n)) (waitingList l n) ≡
-        moved l (cond t (cond u (record { from = e .at; last = h - 1; left = h - 1 }) (still n)) (still n))
-    go true true = refl
-    go true false = refl
-    go false u = refl
-
--- the list after a packet was put at a spot
-abbrev putAt : List Packet → Spot → Packet → WaitingList
-putAt l s p = waitingList (set l (s .place) p) (s .count)
-
-spot-puts : (l : List Packet) (n : ℕ) (p : Packet) (t : Bool) →
-    cond t (putLast (waitingList l n) p) (waitingList l n) ≡ putAt l (spotOf (length l) n t) p
-unfolding putLast spotOf
-spot-puts l n p t = go t (ltb (held (waitingList l n)) (places (waitingList l n)))
+-- the packets that a plan puts
+plan-adds : (l : List Packet) (k m : ℕ) (e : Edit) → k ≡ length l → m + e .add ≤ k → adding l m e ≡
+    set (set l (cond (leb 1 (e .add)) m k) (e .first)) (cond (leb 2 (e .add)) (m + 1) k) (e .second)
+unfolding adding
+plan-adds l k m e same h = go (leb 1 (e .add)) (leb 2 (e .add)) refl refl
   where
-    h : ℕ
-    h = heldIn (length l) n
+    past : (r : List Packet) (p : Packet) → length r ≡ length l → r ≡ set r k p
+    past r p q = set-past r k p (omega (arith, q))
 
-    none : waitingList l n ≡ waitingList (set l (length l) p) n
-    none = ap (λ (m : List Packet). waitingList m n) (set-past l (length l) p (omega arith))
+    go : (s t : Bool) → leb 1 (e .add) ≡ s → leb 2 (e .add) ≡ t →
+        cond s (cond t (set (set l m (e .first)) (m + 1) (e .second)) (set l m (e .first))) l ≡
+        set (set l (cond s m k) (e .first)) (cond t (m + 1) k) (e .second)
+    go true true a b = refl
+    go true false a b = past (set l m (e .first)) (e .second) (length-set l m (e .first))
+    go false true a b = absurd (omega (arith, leb-false 1 (e .add) a, leb-true 2 (e .add) b))
+    go false false a b = past l (e .first) refl ∙ past (set l k (e .first)) (e .second) (length-set l k (e .first))
 
-    go : (t u : Bool) →
-        cond t (cond u (waitingList (set l h p) (h + 1)) (waitingList l n)) (waitingList l n) ≡
-        putAt l (cond t (cond u (record { place = h; count = h + 1 }) (record { place = length l; count = n })) (record { place = length l; count = n })) p
-    go true true = refl
-    go true false = none
-    go false u = none
+-- a plan that moves nothing
+still-keeps : (l : List Packet) (n : ℕ) (e : Edit) → l ≡ carried l (still (length l) n) e
+unfolding moves
+still-keeps l n e =
+    set-past l (length l) (e .first) (omega arith) ∙
+    set-past (set l (length l) (e .first)) (length l) (e .second) (omega (arith, length-set l (length l) (e .first)))
 
--- the second of two packets is wanted only where the first is
-wanted-both : (n : ℕ) (A : Type 0) → leb 1 n ≡ false → leb 2 n ≡ true → A
-wanted-both n A e f = absurd (omega (arith, leb-false 1 n e, leb-true 2 n f))
-
--- so the two come one after the other
-in-turn : (v : WaitingList) (e : Edit) →
-    cond (leb 1 (e .add)) (cond (leb 2 (e .add)) (putLast (putLast v (e .first)) (e .second)) (putLast v (e .first))) v ≡
-    cond (leb 2 (e .add)) (putLast (cond (leb 1 (e .add)) (putLast v (e .first)) v) (e .second)) (cond (leb 1 (e .add)) (putLast v (e .first)) v)
-in-turn v e = go (leb 1 (e .add)) (leb 2 (e .add)) (λ s t. wanted-both (e .add) _ s t)
+-- an edit that fits leaves no more than 64 packets, and there are as many places
+pub fits-places : (length left add : ℕ) → fits length left add ≡ true → (left + add ≤ limits.waiting) × (limits.waiting ≤ length)
+unfolding fits
+fits-places length left add = go (ltb length limits.waiting) refl
   where
-    go : (s t : Bool) → (s ≡ false → t ≡ true → v ≡ putLast v (e .second)) →
-        cond s (cond t (putLast (putLast v (e .first)) (e .second)) (putLast v (e .first))) v ≡
-        cond t (putLast (cond s (putLast v (e .first)) v) (e .second)) (cond s (putLast v (e .first)) v)
-    go true true never = refl
-    go true false never = refl
-    go false true never = never refl refl
-    go false false never = refl
+    go : (t : Bool) → ltb length limits.waiting ≡ t → cond t false (leb (left + add) limits.waiting) ≡ true →
+        (left + add ≤ limits.waiting) × (limits.waiting ≤ length)
+    go true a e = absurd (let z : _≡_ {A = ℕ} 0 1 = cc in omega arith)
+    go false a e = (leb-true (left + add) limits.waiting e, ltb-false length limits.waiting a)
+
+-- as the code tests it
+pub fits-less : (left add : ℕ) → limits.waiting < left → leb (left + add) limits.waiting ≡ false
+fits-less left add h = lt-leb (left + add) limits.waiting (omega arith)
+
+pub fits-more : (left add : ℕ) → left ≤ limits.waiting → leb add (limits.waiting - left) ≡ leb (left + add) limits.waiting
+fits-more left add h = go (leb add (limits.waiting - left)) refl
+  where
+    go : (t : Bool) → leb add (limits.waiting - left) ≡ t → leb add (limits.waiting - left) ≡ leb (left + add) limits.waiting
+    go true e = e ∙ sym (le-leb (left + add) limits.waiting (omega (arith, leb-true add (limits.waiting - left) e)))
+    go false e = e ∙ sym (lt-leb (left + add) limits.waiting (omega (arith, leb-false add (limits.waiting - left) e)))
+
+-- what moves lies in the row
+pub plan-within : (length count : ℕ) (e : Edit) → (planOf length count e .from ≤ planOf length count e .last) × (planOf length count e .last ≤ length - 1)
+unfolding planOf heldIn
+plan-within length count e = go (fits length (leftBy count e) (e .add)) refl (takesOut count e) refl
+  where
+    go : (f : Bool) → fits length (leftBy count e) (e .add) ≡ f → (t : Bool) → takesOut count e ≡ t →
+        (cond f (moving length count e) (still length count) .from ≤ cond f (moving length count e) (still length count) .last) ×
+        (cond f (moving length count e) (still length count) .last ≤ length - 1)
+    go false f t s = (omega arith, omega arith)
+    go true f false s = rw s (omega arith, omega arith)
+    go true f true s =
+        let at = left-taken count e s in
+        let most = fits-places length (leftBy count e) (e .add) f in
+        rw s (omega (arith, at .0, at .1), omega (arith, at .0, most .1))
 
 -- a whole plan
 pub plan-edits : (l : List Packet) (n : ℕ) (e : Edit) →
-    edited (waitingList l n) e ≡ waitingList (carried l (planOf (length l) n e)) (planOf (length l) n e .count)
+    edited (waitingList l n) e ≡ waitingList (carried l (planOf (length l) n e) e) (planOf (length l) n e .count)
 unfolding edited planOf
-plan-edits l n e =
-    let s : Span = spanOf (length l) n (e .take) (e .at) in
-    let m : List Packet = moves blank l (s .from) (s .last - s .from) in
-    let f : Spot = spotOf (length l) (s .left) (leb 1 (e .add)) in
-    let same : length m ≡ length l = length-moves blank l (s .from) (s .last - s .from) in
-    let first : cond (leb 1 (e .add)) (putLast (moved l s) (e .first)) (moved l s) ≡ putAt m f (e .first) =
-    spot-puts m (s .left) (e .first) (leb 1 (e .add)) ∙ ap (λ (k : ℕ). putAt m (spotOf k (s .left) (leb 1 (e .add))) (e .first)) same in
-    in-turn (afterTaking (waitingList l n) e) e ∙
-    rw (span-takes l n e, first)
-    (spot-puts (set m (f .place) (e .first)) (f .count) (e .second) (leb 2 (e .add)) ∙
-    ap (λ (k : ℕ). putAt (set m (f .place) (e .first)) (spotOf k (f .count) (leb 2 (e .add))) (e .second)) (length-set m (f .place) (e .first) ∙ same))
+plan-edits l n e = go (fits (length l) (leftBy n e) (e .add)) refl
+  where
+    go : (t : Bool) → fits (length l) (leftBy n e) (e .add) ≡ t →
+        cond t (waitingList (adding (afterTaking (waitingList l n) e) (leftBy n e) e) (leftBy n e + e .add)) (waitingList l n) ≡
+        waitingList (carried l (cond t (moving (length l) n e) (still (length l) n)) e) (cond t (moving (length l) n e) (still (length l) n) .count)
+    go true f =
+        let long : length (moved l n e) ≡ length l = length-moves blank l _ _ in
+        ap (λ (r : List Packet). waitingList r (leftBy n e + e .add))
+        (ap (λ (r : List Packet). adding r (leftBy n e) e) (plan-moves l n e) ∙
+        plan-adds (moved l n e) (length l) (leftBy n e) e (sym long) (omega (arith, fits-places (length l) (leftBy n e) (e .add) f)))
+    go false f = ap (λ (r : List Packet). waitingList r n) (still-keeps l n e)

@@ -1,5 +1,5 @@
 -- The waiting list of document 01, 'Parts and how big they are': packets, oldest first, in a row of lent places of which the first `count` are in use.
-use mathlib.Core.Bool.{cond}
+use mathlib.Core.Bool.{Bool, false, cond}
 use mathlib.Core.List.{List, [], _∷_}
 use Prim.Native.Nat.{ℕ, _+_, _-_, min}
 use lib.ListN.{length, getD, set, take}
@@ -22,20 +22,12 @@ waitingList packets count = record { packets = packets; count = count }
 abbrev pub blank : Packet
 blank = record { kind = 0; replica = 0; number = 0; operation = 0; object = 0; value = 0; stamp = 0 }
 
--- 'at most 64 packets': no place past the 64th is ever used
-unfoldable pub placesIn : ℕ → ℕ
-placesIn length = min limits.waiting length
-
--- how many wait in so many places: a row shorter than its count holds what it holds
-unfoldable pub heldIn : ℕ → ℕ → ℕ
-heldIn length count = min count (placesIn length)
-
--- both, of a list
-abbrev pub places : WaitingList → ℕ
-places w = placesIn (length (w .packets))
+-- 'at most 64 packets': how many wait
+unfoldable pub heldIn : ℕ → ℕ
+heldIn count = min limits.waiting count
 
 abbrev pub held : WaitingList → ℕ
-held w = heldIn (length (w .packets)) (w .count)
+held w = heldIn (w .count)
 
 -- the packets that wait, oldest first
 unfoldable pub waits : WaitingList → List Packet
@@ -45,29 +37,38 @@ waits w = take (held w) (w .packets)
 unfoldable pub noneWait : List Packet → WaitingList
 noneWait packets = waitingList packets 0
 
--- the packet at a position, blank where none waits
-unfoldable pub lookAt : WaitingList → ℕ → Packet
-lookAt w at = cond (ltb at (held w)) (getD (w .packets) at blank) blank
+-- the packet at a place, blank past the row's end
+unfoldable pub lookAt : List Packet → ℕ → Packet
+lookAt packets at = getD packets at blank
+
+-- ---- an edit
+
+-- whether a packet goes out: one must wait at the position
+unfoldable pub takesOut : ℕ → Edit → Bool
+takesOut count e = cond (e .take) (ltb (e .at) (heldIn count)) false
+
+-- how many are left then
+unfoldable pub leftBy : ℕ → Edit → ℕ
+leftBy count e = cond (takesOut count e) (heldIn count - 1) count
+
+-- 64 lent places are there, and no more than 64 packets wait afterwards; an edit that does not fit changes nothing
+unfoldable pub fits : ℕ → ℕ → ℕ → Bool
+fits length left add = cond (ltb length limits.waiting) false (leb (left + add) limits.waiting)
 
 -- 'Taking a packet out moves each later one down one place.'
-unfoldable pub takenOut : WaitingList → ℕ → WaitingList
-takenOut w at = cond (ltb at (held w)) (waitingList (moves blank (w .packets) at (held w - 1 - at)) (held w - 1)) w
+unfoldable pub afterTaking : WaitingList → Edit → List Packet
+afterTaking w e = cond (takesOut (w .count) e) (moves blank (w .packets) (e .at) (held w - 1 - e .at)) (w .packets)
 
--- 'New packets go to the end.' A full row stays as it is.
-unfoldable pub putLast : WaitingList → Packet → WaitingList
-putLast w p = cond (ltb (held w) (places w)) (waitingList (set (w .packets) (held w) p) (held w + 1)) w
+-- 'New packets go to the end': at most two, in this order, behind the first n
+unfoldable pub adding : List Packet → ℕ → Edit → List Packet
+adding packets n e = cond (leb 1 (e .add)) (cond (leb 2 (e .add)) (set (set packets n (e .first)) (n + 1) (e .second)) (set packets n (e .first))) packets
 
--- what an edit adds, at most two packets, in this order
-unfoldable pub added : Edit → List Packet
-added e = cond (leb 1 (e .add)) (e .first ∷ cond (leb 2 (e .add)) (e .second ∷ []) []) []
-
--- an edit: the packet at a position goes out, or none does
-unfoldable pub afterTaking : WaitingList → Edit → WaitingList
-afterTaking w e = cond (e .take) (takenOut w (e .at)) w
-
--- and then those that it adds come to the end
 unfoldable pub edited : WaitingList → Edit → WaitingList
 edited w e =
-    cond (leb 1 (e .add))
-    (cond (leb 2 (e .add)) (putLast (putLast (afterTaking w e) (e .first)) (e .second)) (putLast (afterTaking w e) (e .first)))
-    (afterTaking w e)
+    cond (fits (length (w .packets)) (leftBy (w .count) e) (e .add))
+    (waitingList (adding (afterTaking w e) (leftBy (w .count) e) e) (leftBy (w .count) e + e .add))
+    w
+
+-- what an edit adds
+unfoldable pub added : Edit → List Packet
+added e = cond (leb 1 (e .add)) (e .first ∷ cond (leb 2 (e .add)) (e .second ∷ []) []) []

@@ -1,11 +1,12 @@
 // The waiting list: packets, oldest first, in a slice that the caller lends, with a count; and an edit that says what a step does to it. Nothing here
 // decides a step.
 ghost use mathlib.Core.Path.{_≡_};
+ghost use mathlib.Core.Bool.{cond};
 ghost use Prim.Native.Nat.{_-_, _≤_};
 ghost use lib.ListN.{length, set};
 ghost use Rattle.lists.specs.{moves};
-ghost use Rattle.waiting.specs.Waiting.{blank, waitingList, placesIn, heldIn, lookAt, edited};
-ghost use Rattle.waiting.specs.Plans.{placeOf, spanOf, spotOf, planOf};
+ghost use Rattle.waiting.specs.Waiting.{blank, waitingList, heldIn, takesOut, leftBy, fits, lookAt, edited};
+ghost use Rattle.waiting.specs.Plans.{planOf};
 use limits::Number;
 use limits::Object;
 use limits::Operation;
@@ -26,36 +27,22 @@ pub struct Packet {
     pub stamp: Stamp,
 }
 
-// What a step does to the list: the packet at `at` goes out if `take` says so, then none, the first or both of two packets come to the end.
+// What a step does to the list: the packet at `at` goes out if `take` says so, then `add` of the two packets come to the end.
 pub struct Edit {
     pub take: bool,
     pub at: usize,
-    pub add: u8,
+    pub add: usize,
     pub first: Packet,
     pub second: Packet,
 }
 
-// The packets after place `from`, up to place `last`, move down one place; `left` is how many are left.
-struct Span {
-    from: usize,
-    last: usize,
-    left: usize,
-}
-
-// Where a packet goes that comes to the end, and the count then. A place past the end of the slice takes none.
-struct Spot {
-    place: usize,
-    count: usize,
-}
-
-// A whole edit: what moves, the first packet and its place, the second packet and the next place, and the count then.
+// An edit place by place: the packets after place `from`, up to place `last`, move down one place, the first new packet goes to `place`, the second to
+// `next`, and `count` then wait. A place past the end of the slice takes none.
 struct Plan {
     from: usize,
     last: usize,
     place: usize,
-    first: Packet,
     next: usize,
-    second: Packet,
     count: usize,
 }
 
@@ -76,109 +63,86 @@ impl Packet {
     }
 }
 
-// ---- places and counts
+// ---- what an edit does
 
-// How many of so many places are used: at most 64.
-fn places(length: usize) -> usize
-    ensures { λ r. ⌜ r ≡ placesIn length ⌝ }
+// How many packets wait.
+pub fn held(count: usize) -> usize
+    ensures { λ r. ⌜ (r ≡ heldIn count) × (r ≤ 64) ⌝ }
 {
-    if WAITING < length {
+    if WAITING < count {
         return WAITING;
-    }
-    length
-}
-
-// How many packets wait in a slice of so many places.
-pub fn held(length: usize, count: usize) -> usize
-    ensures { λ r. ⌜ r ≡ heldIn length count ⌝ }
-{
-    let most = places(length);
-    if most < count {
-        return most;
     }
     count
 }
 
-// The place of the packet at a position; where none waits, the slice's length.
-fn place_of(length: usize, count: usize, at: usize) -> usize
-    ensures { λ r. ⌜ r ≡ placeOf length count at ⌝ }
+fn choose(t: bool, a: usize, b: usize) -> usize
+    ensures { λ r. ⌜ r ≡ cond t a b ⌝ }
 {
-    let n = held(length, count);
-    if n <= at {
-        return length;
-    }
-    at
+    if t { a } else { b }
 }
 
-// What moves where a packet is taken out.
-fn span_of(length: usize, count: usize, take: bool, at: usize) -> Span
-    ensures { λ r. ⌜ (r ≡ spanOf length count take at) × (r .from ≤ r .last) × (r .last ≤ length - 1) ⌝ }
+fn takes_out(count: usize, e: Edit) -> bool
+    ensures { λ r. ⌜ r ≡ takesOut count e ⌝ }
 {
-    let n = held(length, count);
-    if take {
-        if at < n {
-            return Span {
-                from: at,
-                last: n - 1,
-                left: n - 1,
-            };
-        }
+    if e.take {
+        return e.at < held(count);
     }
-    Span {
-        from: 0,
-        last: 0,
-        left: count,
-    }
+    false
 }
 
-// Where a packet goes that comes to the end, if one is wanted.
-fn spot_of(length: usize, count: usize, wanted: bool) -> Spot
-    ensures { λ r. ⌜ r ≡ spotOf length count wanted ⌝ }
+// How many are left once a packet went out, or none did.
+fn left_by(count: usize, e: Edit) -> usize
+    ensures { λ r. ⌜ r ≡ leftBy count e ⌝ }
 {
-    let n = held(length, count);
-    if wanted {
-        if n < places(length) {
-            return Spot {
-                place: n,
-                count: n + 1,
-            };
-        }
+    if takes_out(count, e) {
+        return held(count) - 1;
     }
-    Spot {
-        place: length,
-        count,
-    }
+    count
 }
 
-// What an edit does.
+fn fits(length: usize, left: usize, add: usize) -> bool
+    ensures { λ r. ⌜ r ≡ fits length left add ⌝ }
+{
+    if length < WAITING {
+        return false;
+    }
+    if WAITING < left {
+        return false;
+    }
+    add <= WAITING - left
+}
+
 fn plan_of(length: usize, count: usize, e: Edit) -> Plan
-    ensures { λ r. ⌜ (r ≡ planOf length count e) × (r .from ≤ r .last) × (r .last ≤ length - 1) ⌝ }
+    ensures { λ r. ⌜ r ≡ planOf length count e ⌝ }
 {
-    let span = span_of(length, count, e.take, e.at);
-    let one = spot_of(length, span.left, 1 <= e.add);
-    let two = spot_of(length, one.count, 2 <= e.add);
-    let first = e.first;
-    let second = e.second;
+    let left = left_by(count, e);
+    if !fits(length, left, e.add) {
+        return Plan {
+            from: 0,
+            last: 0,
+            place: length,
+            next: length,
+            count,
+        };
+    }
+    let out = takes_out(count, e);
     Plan {
-        from: span.from,
-        last: span.last,
-        place: one.place,
-        first,
-        next: two.place,
-        second,
-        count: two.count,
+        from: choose(out, e.at, 0),
+        last: choose(out, left, 0),
+        place: choose(1 <= e.add, left, length),
+        next: choose(2 <= e.add, left + 1, length),
+        count: left + e.add,
     }
 }
 
 // ---- the lent slice
 
-// The packet at a position, blank where none waits.
-pub fn look(packets: &mut [Packet], count: usize, at: usize) -> Packet
-    ensures { λ r. ⌜ (r ≡ lookAt (waitingList (now (packets .entry)) count) at) × (now (packets .exit) ≡ now (packets .entry)) ⌝ }
+// The packet at a place, blank past the end.
+pub fn look(packets: &mut [Packet], at: usize) -> Packet
+    ensures { λ r. ⌜ (r ≡ lookAt (now (packets .entry)) at) × (now (packets .exit) ≡ now (packets .entry)) ⌝ }
 {
-    let place = place_of(packets.len(), count, at);
-    if place < packets.len() {
-        return packets[place];
+    if at < packets.len() {
+        return packets[at];
     }
     Packet::blank()
 }
@@ -211,7 +175,7 @@ pub fn change(packets: &mut [Packet], count: usize, e: Edit) -> usize
 {
     let p = plan_of(packets.len(), count, e);
     close_up(packets, p.from, p.last);
-    put(packets, p.place, p.first);
-    put(packets, p.next, p.second);
+    put(packets, p.place, e.first);
+    put(packets, p.next, e.second);
     p.count
 }

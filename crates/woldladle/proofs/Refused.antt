@@ -1,16 +1,20 @@
--- A refused step of a session changes nothing: the state, the count and all that is lent are as they were.
-use mathlib.Core.Path.{_≡_, refl, ap, _∙_}
-use mathlib.Core.Logic.{_≢_}
-use mathlib.Core.Bool.{Bool, true, false, cond}
+-- What is refused changes nothing: a step of a session, and a start.
+use mathlib.Core.Path.{_≡_, refl, sym, ap, _∙_}
+use mathlib.Core.Logic.{_⊎_, inl, inr, _≢_}
+use mathlib.Core.Bool.{true, false}
 use mathlib.Core.List.{List}
 use Prim.Native.Nat.{ℕ}
+use Rattle.switch.specs.DirtySet.{countedMarks}
+use Rattle.waiting.specs.declared.Packet.{Packet}
+use Rattle.waiting.specs.Waiting.{waitingList}
 use Rattle.protocol.specs.declared.Answer.{Answer}
 use Rattle.protocol.specs.declared.Answer.the-variants.{Done, Finished, Refused}
+use Rattle.protocol.specs.declared.Refusal.the-variants.{Replicas}
 use Rattle.protocol.specs.declared.Step.{Step}
-use Rattle.protocol.specs.declared.Step.the-variants.{Start}
-use Rattle.protocol.specs.Steps.{Machine, answerTo, after, steppedBy}
-use Rattle.protocol.proofs.Refusals.{refused-unchanged, start-keeps}
-use Rattle.woldladle.specs.Calls.{refusalIn, refusalAfter, tooFew, askedBy, sessionAfter}
+use Rattle.protocol.specs.Steps.{Machine, machine, answerTo, after, steppedBy, startRefused, startAnswer, startSwitch, startStore, startOpens}
+use Rattle.protocol.proofs.Refusals.{refused-unchanged, start-cases}
+use Rattle.woldladle.specs.declared.Session.{Session}
+use Rattle.woldladle.specs.Calls.{refusalIn, askedBy, sessionStarted, sessionAfter}
 
 -- an answer with a number is a refusal
 kept : (m : Machine) (x : Step) (a : Answer) → answerTo m x ≡ a → refusalIn a ≢ 0 → after m x ≡ m
@@ -18,20 +22,31 @@ kept m x Done e h = absurd (h refl)
 kept m x (Finished o v) e h = absurd (h refl)
 kept m x (Refused r) e h = refused-unchanged m x r e
 
--- with too few places the machine is handed a start
-few-asked : (places : ℕ) (bytes : List ℕ) → tooFew places ≡ true → askedBy places bytes ≡ Start 0
-unfolding askedBy
-few-asked places bytes e = rw e refl
+-- a refused step, whatever the bytes, the session and what is lent: the switch, the store, the open operations and the packets are as they were, and so are the
+-- count of packets and the marks, if they were those that count
+module _ (u : Session) (switch store opens : List ℕ) (packets : List Packet) (bytes : List ℕ) where
+  abbrev was : Machine
+  was = machine switch store opens (waitingList packets (u .waiting))
 
-few-kept : (m : Machine) (places : ℕ) (bytes : List ℕ) → tooFew places ≡ true → after m (askedBy places bytes) ≡ m
-few-kept m places bytes e = ap (after m) (few-asked places bytes e) ∙ start-keeps m 0
+  abbrev then : Session
+  then = sessionAfter (steppedBy was (askedBy bytes))
 
--- whatever the bytes, and however few the places
-pub session-unchanged : (m : Machine) (places : ℕ) (bytes : List ℕ)
-    → sessionAfter places (steppedBy m (askedBy places bytes)) .refusal ≢ 0 → after m (askedBy places bytes) ≡ m
-unfolding sessionAfter refusalAfter
-session-unchanged m places bytes = go (tooFew places) refl
+  pub session-unchanged : then .refusal ≢ 0 → (after was (askedBy bytes) ≡ was) × (then .waiting ≡ u .waiting) × (u .marks ≡ countedMarks switch → then .marks ≡ u .marks)
+  unfolding sessionAfter
+  session-unchanged h =
+      let same = kept was (askedBy bytes) (answerTo was (askedBy bytes)) refl h in
+      (same, ap (λ (m : Machine). m .waiting .count) same, λ e. ap (λ (m : Machine). countedMarks (m .switch)) same ∙ sym e)
+
+-- a refused start: everything but the refusal, the operation and the value is as it was
+abbrev StartKept : ℕ → Session → Type 0
+StartKept n u =
+    (sessionStarted n u ≡ record { refusal = 2; operation = 0; value = 0; marks = u .marks; waiting = u .waiting })
+    × ((l : List ℕ) → startSwitch n l ≡ l) × ((l : List ℕ) → startStore n l ≡ l) × ((l : List ℕ) → startOpens n l ≡ l)
+
+pub session-start-unchanged : (n : ℕ) (u : Session) → sessionStarted n u .refusal ≢ 0 → StartKept n u
+unfolding sessionStarted startAnswer startSwitch startStore startOpens
+session-start-unchanged n u = go (start-cases n)
   where
-    go : (t : Bool) → tooFew places ≡ t → cond t 15 (refusalIn (answerTo m (askedBy places bytes))) ≢ 0 → after m (askedBy places bytes) ≡ m
-    go true e h = few-kept m places bytes e
-    go false e h = kept m (askedBy places bytes) (answerTo m (askedBy places bytes)) refl h
+    go : ((startRefused n ≡ true) × (startAnswer n ≡ Refused Replicas)) ⊎ ((startRefused n ≡ false) × (startAnswer n ≡ Done)) → sessionStarted n u .refusal ≢ 0 → StartKept n u
+    go (inl e) h = (rw (e .0), (λ l. rw (e .0)), (λ l. rw (e .0)), (λ l. rw (e .0)))
+    go (inr e) h = absurd (h (ap refusalIn (e .1)))

@@ -5,20 +5,18 @@ use Prim.Native.Nat.{ℕ, _+_, _%_}
 use lib.Dec.{eqb, leb, ltb}
 use lib.ListN.{length}
 use Rattle.limits.specs as limits
-use Rattle.switch.specs.DirtySet.{countedMarks}
 use Rattle.replicas.specs.Store.{valueAt, stampAt}
 use Rattle.waiting.specs.Waiting.{heldIn}
 use Rattle.protocol.specs.declared.Answer.{Answer}
 use Rattle.protocol.specs.declared.Answer.the-variants.{Done, Finished, Refused}
-use Rattle.protocol.specs.declared.Refusal.the-variants.{Format, BufferTooShort}
+use Rattle.protocol.specs.declared.Refusal.the-variants.{Format}
 use Rattle.protocol.specs.declared.Step.{Step}
 use Rattle.protocol.specs.declared.Step.the-variants.{Start, BeginRead, BeginWrite, Deliver, Lose, Repeat, Advance, Replace, Tell, Remove, GiveUp}
 use Rattle.protocol.specs.declared.Stepped.{Stepped}
 use Rattle.protocol.specs.Answers.{refusalNumber}
-use Rattle.protocol.specs.Steps.{startAnswer}
+use Rattle.protocol.specs.Steps.{startRefused, startAnswer}
 use Rattle.records.specs.declared.Found.{Found}
 use Rattle.records.specs.Records.{kindOfTag, noStep, contentLength, recordAt, writtenAt, bufferAfter, writtenRefusal}
-use Rattle.lines.specs.declared.Written.{Written as LineWritten}
 use Rattle.lines.specs.Lines.{lineOf, noLine}
 use Rattle.woldladle.specs.declared.Session.{Session}
 
@@ -40,56 +38,47 @@ valueIn Done = 0
 valueIn (Finished o v) = v
 valueIn (Refused r) = 0
 
--- a session after a start: no packet waits and no mark counts
-unfoldable pub sessionStarted : ℕ → Session
-sessionStarted n = record {
-  refusal = refusalIn (startAnswer n .answer);
+-- a session after a start with n replicas: a refused one leaves the marks and what waits as they were
+unfoldable pub sessionStarted : ℕ → Session → Session
+sessionStarted n before = record {
+  refusal = refusalIn (startAnswer n);
   operation = 0;
   value = 0;
-  waiting = 0;
-  marks = 0;
-  count = startAnswer n .count;
-  state = startAnswer n .state;
+  marks = cond (startRefused n) (before .marks) 0;
+  waiting = cond (startRefused n) (before .waiting) 0;
 }
-
--- too few places are lent for the packets: refusal 15, and nothing is done
-unfoldable pub tooFew : ℕ → Bool
-tooFew places = ltb places limits.waiting
 
 -- the step of a record that fills the lent bytes; where there is none, a start, which the machine refuses by 1
 abbrev pub wholeStep : Found → ℕ → Step
 wholeStep (Found.Record x n) size = cond (eqb n size) x (Start 0)
 wholeStep Found.Malformed size = Start 0
 
-unfoldable pub askedBy : ℕ → List ℕ → Step
-askedBy places bytes = cond (tooFew places) (Start 0) (wholeStep (recordAt bytes 0) (length bytes))
+unfoldable pub askedBy : List ℕ → Step
+askedBy bytes = wholeStep (recordAt bytes 0) (length bytes)
 
-unfoldable pub refusalAfter : ℕ → Answer → ℕ
-refusalAfter places a = cond (tooFew places) (refusalNumber BufferTooShort) (refusalIn a)
-
--- a session after a step, with so many places for packets
-unfoldable pub sessionAfter : ℕ → Stepped → Session
-sessionAfter places t = record {
-  refusal = refusalAfter places (t .answer);
+-- a session after a step
+unfoldable pub sessionAfter : Stepped → Session
+sessionAfter t = record {
+  refusal = refusalIn (t .answer);
   operation = operationIn (t .answer);
   value = valueIn (t .answer);
-  waiting = heldIn places (t .count);
-  marks = countedMarks (t .state .switch);
-  count = t .count;
-  state = t .state;
+  marks = t .marks;
+  waiting = t .count;
 }
 
 -- ---- lines
 
+-- an answer that is no refusal, from its numbers
+unfoldable pub answerFrom : ℕ → ℕ → Answer
+answerFrom o v = cond (eqb o 0) Done (Finished o v)
+
 -- the line of a session's last step, as record k
 unfoldable pub lineFor : ℕ → ℕ → ℕ → ℕ → ℕ → ℕ → List ℕ
-lineFor k refusal o v waiting marks =
-    cond (eqb refusal 0) (lineOf k (cond (eqb o 0) Done (Finished o v)) waiting marks) (noLine k refusal)
+lineFor k refusal o v waiting marks = cond (eqb refusal 0) (lineOf k (answerFrom o v) (heldIn waiting) marks) (noLine k refusal)
 
--- how many bytes were written, 0 where the buffer is too short
-abbrev pub lineBytes : LineWritten → ℕ
-lineBytes (LineWritten.Bytes n) = n
-lineBytes LineWritten.TooShort = 0
+-- how many bytes of a line go into a buffer: all, or none where it is too short
+unfoldable pub putBytes : List ℕ → List ℕ → ℕ
+putBytes out line = cond (leb (length line) (length out)) (length line) 0
 
 -- ---- records from numbers
 

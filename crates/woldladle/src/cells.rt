@@ -20,22 +20,22 @@ fn is_cell(replica: u8, object: u32) -> bool
 
 // The value of an object at a replica, removed or not: 0 where there is no such replica or object.
 #[no_mangle]
-pub extern "C" fn woldladle_value(cells: &[u32; CELLS], replica: u8, object: u32) -> u32
-    ensures { λ r. ⌜ r ≡ valueOf (now (cells .entry)) replica object ⌝ }
+pub extern "C" fn woldladle_value(store: &[u32; CELLS], replica: u8, object: u32) -> u32
+    ensures { λ r. ⌜ r ≡ valueOf (now (store .entry)) replica object ⌝ }
 {
     if is_cell(replica, object) {
-        return store::read_value(cells, replica, object);
+        return store::read_value(store, replica, object);
     }
     0
 }
 
 // Its stamp: the switch number times 65,536, and the counter.
 #[no_mangle]
-pub extern "C" fn woldladle_stamp(cells: &[u32; CELLS], replica: u8, object: u32) -> u32
-    ensures { λ r. ⌜ r ≡ stampIn (now (cells .entry)) replica object ⌝ }
+pub extern "C" fn woldladle_stamp(store: &[u32; CELLS], replica: u8, object: u32) -> u32
+    ensures { λ r. ⌜ r ≡ stampIn (now (store .entry)) replica object ⌝ }
 {
     if is_cell(replica, object) {
-        return store::read_stamp(cells, replica, object);
+        return store::read_stamp(store, replica, object);
     }
     0
 }

@@ -1,72 +1,64 @@
-// The model for callers in C and Rust: a session and lent memory, records, lines, and whole runs. bindings/c/woldladle.h says where each thing lies.
+// The model for callers in C and Rust: a session and lent memory, records and lines. bindings/c/woldladle.h says where each thing lies.
 ghost use mathlib.Core.Path.{_≡_};
 ghost use Rattle.waiting.specs.Waiting.{waitingList};
-ghost use Rattle.protocol.specs.Steps.{machine, after, steppedBy, startStore, startOpens};
-ghost use lib.ListN.{length};
+ghost use Rattle.protocol.specs.Steps.{machine, after, steppedBy, startSwitch, startStore, startOpens};
 ghost use Rattle.woldladle.specs.Calls.{sessionStarted, askedBy, sessionAfter};
 
 pub mod cells;
 pub mod lines_out;
 pub mod records_out;
-pub mod runs_out;
 pub mod sessions;
 
-use limits::OPEN;
-use limits::Operation;
-use protocol::State;
-use replicas::CELLS;
 use waiting::Packet;
 
-// What a caller holds from step to step, and the answer of the last one: its refusal or 0; the operation that it finished, or 0, and that operation's value; how
-// many packets wait and how many marks count. The rest is the machine's own.
+// The answer of the last start or step: its refusal or 0; the operation that it finished, or 0, and that operation's value; how many marks count then. `waiting` is
+// the count of waiting packets that goes into the next step.
 #[repr(C)]
 pub struct Session {
     pub refusal: u8,
     pub operation: u32,
     pub value: u32,
+    pub marks: u32,
     pub waiting: usize,
-    pub marks: usize,
-    pub count: usize,
-    pub state: State,
 }
 
 // A start with n replicas.
 #[no_mangle]
 pub extern "C" fn woldladle_start(
     session: &mut Session,
-    cells: &mut [u32; CELLS],
-    opens: &mut [Operation; OPEN],
+    switch: &mut [u32; switch::CELLS],
+    store: &mut [u32; replicas::CELLS],
+    opens: &mut [u32; operations::CELLS],
     n: u8,
 )
-    ensures { λ _. ⌜ (now (session .exit) ≡ sessionStarted n)
-        × (now (cells .exit) ≡ startStore n (now (cells .entry)))
+    ensures { λ _. ⌜ (now (session .exit) ≡ sessionStarted n (now (session .entry)))
+        × (now (switch .exit) ≡ startSwitch n (now (switch .entry)))
+        × (now (store .exit) ≡ startStore n (now (store .entry)))
         × (now (opens .exit) ≡ startOpens n (now (opens .entry))) ⌝ }
 {
-    *session = sessions::begin(cells, opens, n);
+    let before = *session;
+    *session = sessions::begin(before, switch, store, opens, n);
 }
 
 // The step of one record, which is all of the lent bytes.
 #[no_mangle]
 pub extern "C" fn woldladle_step(
     session: &mut Session,
-    cells: &mut [u32; CELLS],
-    opens: &mut [Operation; OPEN],
+    switch: &mut [u32; switch::CELLS],
+    store: &mut [u32; replicas::CELLS],
+    opens: &mut [u32; operations::CELLS],
     packets: &mut [Packet],
     bytes: &[u8],
 )
-    ensures { λ _. ⌜ (now (session .exit) ≡ sessionAfter (length (now (packets .entry)))
-        (steppedBy (machine (now (session .entry) .state) (now (cells .entry)) (now (opens .entry)) (waitingList (now (packets .entry)) (now (session .entry) .count)))
-        (askedBy (length (now (packets .entry))) (now (bytes .entry)))))
-        × (now (cells .exit) ≡ after (machine (now (session .entry) .state) (now (cells .entry)) (now (opens .entry)) (waitingList (now (packets .entry)) (now (session .entry) .count)))
-        (askedBy (length (now (packets .entry))) (now (bytes .entry))) .store)
-        × (now (opens .exit) ≡ after (machine (now (session .entry) .state) (now (cells .entry)) (now (opens .entry)) (waitingList (now (packets .entry)) (now (session .entry) .count)))
-        (askedBy (length (now (packets .entry))) (now (bytes .entry))) .opens)
-        × (now (packets .exit) ≡ after (machine (now (session .entry) .state) (now (cells .entry)) (now (opens .entry)) (waitingList (now (packets .entry)) (now (session .entry) .count)))
-        (askedBy (length (now (packets .entry))) (now (bytes .entry))) .waiting .packets) ⌝ }
+    ensures { λ _. ⌜ (now (session .exit) ≡ sessionAfter
+        (steppedBy (machine (now (switch .entry)) (now (store .entry)) (now (opens .entry)) (waitingList (now (packets .entry)) (now (session .entry) .waiting))) (askedBy (now (bytes .entry)))))
+        × (now (switch .exit) ≡ after (machine (now (switch .entry)) (now (store .entry)) (now (opens .entry)) (waitingList (now (packets .entry)) (now (session .entry) .waiting))) (askedBy (now (bytes .entry))) .switch)
+        × (now (store .exit) ≡ after (machine (now (switch .entry)) (now (store .entry)) (now (opens .entry)) (waitingList (now (packets .entry)) (now (session .entry) .waiting))) (askedBy (now (bytes .entry))) .store)
+        × (now (opens .exit) ≡ after (machine (now (switch .entry)) (now (store .entry)) (now (opens .entry)) (waitingList (now (packets .entry)) (now (session .entry) .waiting))) (askedBy (now (bytes .entry))) .opens)
+        × (now (packets .exit) ≡ after (machine (now (switch .entry)) (now (store .entry)) (now (opens .entry)) (waitingList (now (packets .entry)) (now (session .entry) .waiting))) (askedBy (now (bytes .entry))) .waiting .packets) ⌝ }
 {
     let before = *session;
-    let places = packets.len();
-    let x = sessions::asked(places, bytes);
-    let done = machine::step(before.state, cells, opens, packets, before.count, x);
-    *session = sessions::noted(places, done);
+    let x = sessions::asked(bytes);
+    let done = machine::step(switch, store, opens, packets, before.waiting, x);
+    *session = sessions::noted(done);
 }

@@ -1,28 +1,38 @@
 // The line of a session's last step.
 ghost use mathlib.Core.Path.{_≡_};
-ghost use Rattle.lines.specs.Text.{text, written, putIn};
-ghost use Rattle.woldladle.specs.Calls.{lineFor, lineBytes};
-use lines::Line;
-use lines::Written;
+ghost use lib.ListN.{length};
+ghost use Rattle.lines.specs.Text.{putIn};
+ghost use Rattle.woldladle.specs.Calls.{answerFrom, lineFor, putBytes};
 use protocol::Answer;
 
-fn line_for(
+fn answer_from(operation: u32, value: u32) -> Answer
+    ensures { λ r. ⌜ r ≡ answerFrom operation value ⌝ }
+{
+    if operation == 0 {
+        return Answer::Done;
+    }
+    Answer::Finished(operation, value)
+}
+
+// The line at the start of the buffer, which is unchanged where it is too short. How many bytes the line has.
+fn put_line(
     number: u32,
     refusal: u8,
     operation: u32,
     value: u32,
     waiting: usize,
-    marks: usize,
-) -> Line
-    ensures { λ r. ⌜ text r ≡ lineFor number refusal operation value waiting marks ⌝ }
+    marks: u32,
+    out: &mut [u8],
+) -> usize
+    ensures { λ r. ⌜ (r ≡ length (lineFor number refusal operation value waiting marks))
+        × (now (out .exit) ≡ putIn (now (out .entry)) 0 (lineFor number refusal operation value waiting marks)) ⌝ }
 {
     if refusal != 0 {
-        return lines::of_refusal(number, refusal);
+        return lines::put_refusal(&mut *out, 0, number, refusal);
     }
-    if operation == 0 {
-        return lines::of_answer(number, Answer::Done, waiting, marks);
-    }
-    lines::of_answer(number, Answer::Finished(operation, value), waiting, marks)
+    let answer = answer_from(operation, value);
+    let held = waiting::held(waiting) as u32;
+    lines::put_answer(&mut *out, 0, number, answer, held, marks)
 }
 
 // The line of record `number`, from the fields of its session, at the start of the buffer. How many bytes it has: 0 where the buffer is too short, and
@@ -34,15 +44,16 @@ pub extern "C" fn woldladle_line(
     operation: u32,
     value: u32,
     waiting: usize,
-    marks: usize,
+    marks: u32,
     out: &mut [u8],
 ) -> usize
-    ensures { λ r. ⌜ (r ≡ lineBytes (written (now (out .entry)) 0 (lineFor number refusal operation value waiting marks)))
+    ensures { λ r. ⌜ (r ≡ putBytes (now (out .entry)) (lineFor number refusal operation value waiting marks))
         × (now (out .exit) ≡ putIn (now (out .entry)) 0 (lineFor number refusal operation value waiting marks)) ⌝ }
 {
-    let line = line_for(number, refusal, operation, value, waiting, marks);
-    match lines::put(line, &mut *out, 0) {
-        Written::Bytes(n) => n,
-        Written::TooShort => 0,
+    let room = out.len();
+    let n = put_line(number, refusal, operation, value, waiting, marks, &mut *out);
+    if n <= room {
+        return n;
     }
+    0
 }

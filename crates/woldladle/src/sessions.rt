@@ -1,17 +1,12 @@
 // A session after a start or a step.
 ghost use mathlib.Core.Path.{_≡_};
-ghost use Rattle.protocol.specs.Steps.{startStore, startOpens};
-ghost use Rattle.woldladle.specs.Calls.{refusalIn, operationIn, valueIn, sessionStarted, tooFew, refusalAfter, wholeStep, askedBy, sessionAfter};
+ghost use Rattle.protocol.specs.Steps.{startSwitch, startStore, startOpens};
+ghost use Rattle.woldladle.specs.Calls.{refusalIn, operationIn, valueIn, sessionStarted, wholeStep, askedBy, sessionAfter};
 use crate::Session;
-use limits::OPEN;
-use limits::Operation;
-use limits::WAITING;
 use protocol::Answer;
-use protocol::Refusal;
 use protocol::Step;
 use protocol::Stepped;
 use records::Found;
-use replicas::CELLS;
 
 fn refusal_in(answer: Answer) -> u8
     ensures { λ r. ⌜ r ≡ refusalIn answer ⌝ }
@@ -43,29 +38,39 @@ fn value_in(answer: Answer) -> u32
     }
 }
 
-// An empty store: no packet waits, and no mark counts.
-pub fn begin(cells: &mut [u32; CELLS], opens: &mut [Operation; OPEN], n: u8) -> Session
-    ensures { λ r. ⌜ (r ≡ sessionStarted n) × (now (cells .exit) ≡ startStore n (now (cells .entry))) × (now (opens .exit) ≡ startOpens n (now (opens .entry))) ⌝ }
+// An empty store: no packet waits, and no mark counts. A refused start leaves what waits and what counts as it was.
+pub fn begin(
+    before: Session,
+    switch: &mut [u32; switch::CELLS],
+    store: &mut [u32; replicas::CELLS],
+    opens: &mut [u32; operations::CELLS],
+    n: u8,
+) -> Session
+    ensures { λ r. ⌜ (r ≡ sessionStarted n before)
+        × (now (switch .exit) ≡ startSwitch n (now (switch .entry)))
+        × (now (store .exit) ≡ startStore n (now (store .entry)))
+        × (now (opens .exit) ≡ startOpens n (now (opens .entry))) ⌝ }
 {
-    let done = machine::start(n, &mut *cells, &mut *opens);
-    let answer = done.answer;
-    let state = done.state;
+    let answer = machine::start(n, &mut *switch, &mut *store, &mut *opens);
     let refusal = refusal_in(answer);
+    if machine::start_refused(n) {
+        return Session {
+            refusal,
+            operation: 0,
+            value: 0,
+            marks: before.marks,
+            waiting: before.waiting,
+        };
+    }
+    // None counts. They are counted here too so that `count` stays a call: inlined in a step it is no vector code, and the step takes a third longer.
+    let marks = switch::cells::count(switch);
     Session {
         refusal,
         operation: 0,
         value: 0,
+        marks,
         waiting: 0,
-        marks: 0,
-        count: done.count,
-        state,
     }
-}
-
-fn too_few(places: usize) -> bool
-    ensures { λ r. ⌜ r ≡ tooFew places ⌝ }
-{
-    places < WAITING
 }
 
 fn whole_step(found: Found, size: usize) -> Step
@@ -78,44 +83,25 @@ fn whole_step(found: Found, size: usize) -> Step
 }
 
 // The step that the machine is handed for a record: a start, which it refuses, where there is none.
-pub fn asked(places: usize, bytes: &[u8]) -> Step
-    ensures { λ r. ⌜ r ≡ askedBy places (now (bytes .entry)) ⌝ }
+pub fn asked(bytes: &[u8]) -> Step
+    ensures { λ r. ⌜ r ≡ askedBy (now (bytes .entry)) ⌝ }
 {
-    if too_few(places) {
-        return Step::Start(0);
-    }
     whole_step(records::record_at(bytes, 0), bytes.len())
 }
 
-fn refusal_after(places: usize, answer: Answer) -> u8
-    ensures { λ r. ⌜ r ≡ refusalAfter places answer ⌝ }
-{
-    if too_few(places) {
-        return lines::refusal_number(Refusal::BufferTooShort);
-    }
-    refusal_in(answer)
-}
-
 // The session after a step.
-pub fn noted(places: usize, done: Stepped) -> Session
-    ensures { λ r. ⌜ r ≡ sessionAfter places done ⌝ }
+pub fn noted(done: Stepped) -> Session
+    ensures { λ r. ⌜ r ≡ sessionAfter done ⌝ }
 {
     let answer = done.answer;
-    let state = done.state;
-    let switch = state.switch;
-    let count = done.count;
-    let refusal = refusal_after(places, answer);
+    let refusal = refusal_in(answer);
     let operation = operation_in(answer);
     let value = value_in(answer);
-    let waiting = waiting::held(places, count);
-    let marks = switch.count();
     Session {
         refusal,
         operation,
         value,
-        waiting,
-        marks,
-        count,
-        state,
+        marks: done.marks,
+        waiting: done.count,
     }
 }

@@ -3,7 +3,7 @@ use Rattle.delivery.proofs.answers.Statement.{statement}
 use Rattle.delivery.proofs.answers.Tie as tie
 
 returns : tie.Need-returns
-returns c = simp (c .take-out-add-two .ensures, c .before .before .packet-of .ensures, c .before .packet-of2 .ensures)
+returns c = simp (← c .before .before .packet-of .ensures, ← c .before .packet-of2 .ensures, c .take-out-add-two .ensures)
 
 pub answers-spec : {M : Type 1} → statement M
 answers-spec =

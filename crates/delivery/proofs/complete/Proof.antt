@@ -1,3 +1,4 @@
+use mathlib.Core.Path.{refl}
 use Rattle.protocol.specs.Delivery.{completion}
 use borrow.Author.Needs.{needs}
 use Rattle.delivery.proofs.complete.Statement.{statement}
@@ -5,7 +6,7 @@ use Rattle.delivery.proofs.complete.Tie as tie
 
 returns : tie.Need-returns
 unfolding completion
-returns c = simp (c .done .ensures, c .before .before .with-switch .ensures, c .before .before .before .complete .ensures, c .before .take-out .ensures)
+returns c = simp (c .before .before .before .before .load .ensures, c .before .before .before .complete .ensures, c .before .store .ensures, c .drop-packet .ensures) (refl, refl)
 
 pub complete-spec : {M : Type 1} → statement M
 complete-spec =

@@ -1,5 +1,5 @@
-use Rattle.protocol.specs.Delivery.{directRead}
 use borrow.Author.Tests.{not-false, not-true}
+use Rattle.protocol.specs.Delivery.{directRead}
 use borrow.Author.Needs.{needs}
 use Rattle.delivery.proofs.direct_read.Statement.{statement}
 use Rattle.delivery.proofs.direct_read.Tie as tie
@@ -14,7 +14,7 @@ returns-2 c = simp (← c .before .before .before .before .before .is-live .ensu
 
 returns-3 : tie.Need-returns-3
 unfolding directRead
-returns-3 c = simp (← c .before .before .before .before .before .is-live .ensures, not-false (c .before .before .before .before .before .is-live .result) (c .before .before .before .before .if1 .left), ← c .before .before .before .answers .ensures, c .before .before .if2 .left, c .pass-on2 .ensures, c .before .tail .ensures)
+returns-3 c = simp (← c .before .before .before .before .before .is-live .ensures, not-false (c .before .before .before .before .before .is-live .result) (c .before .before .before .before .if1 .left), ← c .before .before .before .answers .ensures, c .before .before .if2 .left, ← c .before .tail .ensures, c .pass-on2 .ensures)
 
 pub direct-read-spec : {M : Type 1} → statement M
 direct-read-spec =

@@ -1,5 +1,5 @@
-use Rattle.protocol.specs.Delivery.{normalRead}
 use borrow.Author.Tests.{not-false, not-true}
+use Rattle.protocol.specs.Delivery.{normalRead}
 use borrow.Author.Needs.{needs}
 use Rattle.delivery.proofs.normal_read.Statement.{statement}
 use Rattle.delivery.proofs.normal_read.Tie as tie

@@ -5,47 +5,47 @@ use Rattle.machine.proofs.decide.Tie as tie
 
 returns : tie.Need-returns
 unfolding decided
-returns c = (rw (c .before .before .x .given .1) (c .refuse .ensures), rw (c .before .before .x .given .1), rw (c .before .before .x .given .1))
+returns c = (rw (c .before .before .x .given .1) (c .refuse .ensures), rw (c .before .before .x .given .1), rw (c .before .before .x .given .1), rw (c .before .before .x .given .1))
 
 returns-2 : tie.Need-returns-2
 unfolding decided
-returns-2 c = (rw (c .before .before .before .x2 .given .1) (c .begin .ensures .0), rw (c .before .before .before .x2 .given .1), rw (c .before .before .before .x2 .given .1) (c .begin .ensures .1))
+returns-2 c = (rw (c .before .before .before .x2 .given .1) (c .begin .ensures .0), rw (c .before .before .before .x2 .given .1), rw (c .before .before .before .x2 .given .1), rw (c .before .before .before .x2 .given .1) (c .begin .ensures .1))
 
 returns-3 : tie.Need-returns-3
 unfolding decided
-returns-3 c = (rw (c .before .before .before .x3 .given .1) (c .begin2 .ensures .0), rw (c .before .before .before .x3 .given .1), rw (c .before .before .before .x3 .given .1) (c .begin2 .ensures .1))
+returns-3 c = (rw (c .before .before .before .x3 .given .1) (c .begin2 .ensures .0), rw (c .before .before .before .x3 .given .1), rw (c .before .before .before .x3 .given .1), rw (c .before .before .before .x3 .given .1) (c .begin2 .ensures .1))
 
 returns-4 : tie.Need-returns-4
 unfolding decided
-returns-4 c = (rw (c .before .before .before .before .x4 .given .1) (c .deliver .ensures .0), rw (c .before .before .before .before .x4 .given .1) (c .deliver .ensures .1), rw (c .before .before .before .before .x4 .given .1) (c .deliver .ensures .2))
+returns-4 c = (rw (c .before .before .before .before .before .x4 .given .1) (c .deliver .ensures .0), rw (c .before .before .before .before .before .x4 .given .1) (c .deliver .ensures .1), rw (c .before .before .before .before .before .x4 .given .1) (c .deliver .ensures .2), rw (c .before .before .before .before .before .x4 .given .1) (c .deliver .ensures .3))
 
 returns-5 : tie.Need-returns-5
 unfolding decided
-returns-5 c = (rw (c .before .before .x5 .given .1) (c .lose .ensures), rw (c .before .before .x5 .given .1), rw (c .before .before .x5 .given .1))
+returns-5 c = (rw (c .before .before .x5 .given .1) (c .lose .ensures), rw (c .before .before .x5 .given .1), rw (c .before .before .x5 .given .1), rw (c .before .before .x5 .given .1))
 
 returns-6 : tie.Need-returns-6
 unfolding decided
-returns-6 c = (rw (c .before .before .x6 .given .1) (c .repeat .ensures), rw (c .before .before .x6 .given .1), rw (c .before .before .x6 .given .1))
+returns-6 c = (rw (c .before .before .x6 .given .1) (c .repeat .ensures), rw (c .before .before .x6 .given .1), rw (c .before .before .x6 .given .1), rw (c .before .before .x6 .given .1))
 
 returns-7 : tie.Need-returns-7
 unfolding decided
-returns-7 c = (rw (c .before .before .before .x7 .given .1) (c .advance .ensures .0), rw (c .before .before .before .x7 .given .1) (c .advance .ensures .1), rw (c .before .before .before .x7 .given .1))
+returns-7 c = (rw (c .before .before .before .x7 .given .1) (c .advance .ensures .0), rw (c .before .before .before .x7 .given .1), rw (c .before .before .before .x7 .given .1) (c .advance .ensures .1), rw (c .before .before .before .x7 .given .1))
 
 returns-8 : tie.Need-returns-8
 unfolding decided
-returns-8 c = (rw (c .before .before .x8 .given .1) (c .replace .ensures), rw (c .before .before .x8 .given .1), rw (c .before .before .x8 .given .1))
+returns-8 c = (rw (c .before .before .before .x8 .given .1) (c .replace .ensures .0), rw (c .before .before .before .x8 .given .1) (c .replace .ensures .1), rw (c .before .before .before .x8 .given .1), rw (c .before .before .before .x8 .given .1))
 
 returns-9 : tie.Need-returns-9
 unfolding decided
-returns-9 c = (rw (c .before .before .x9 .given .1) (c .tell .ensures), rw (c .before .before .x9 .given .1), rw (c .before .before .x9 .given .1))
+returns-9 c = (rw (c .before .before .before .before .x9 .given .1) (c .tell .ensures .0), rw (c .before .before .before .before .x9 .given .1), rw (c .before .before .before .before .x9 .given .1) (c .tell .ensures .1), rw (c .before .before .before .before .x9 .given .1))
 
 returns-10 : tie.Need-returns-10
 unfolding decided
-returns-10 c = (rw (c .before .before .x10 .given .1) (c .remove .ensures), rw (c .before .before .x10 .given .1), rw (c .before .before .x10 .given .1))
+returns-10 c = (rw (c .before .before .before .x10 .given .1) (c .remove .ensures .0), rw (c .before .before .before .x10 .given .1), rw (c .before .before .before .x10 .given .1) (c .remove .ensures .1), rw (c .before .before .before .x10 .given .1))
 
 returns-11 : tie.Need-returns-11
 unfolding decided
-returns-11 c = (rw (c .before .before .before .x11 .given .1) (c .give-up .ensures .0), rw (c .before .before .before .x11 .given .1), rw (c .before .before .before .x11 .given .1) (c .give-up .ensures .1))
+returns-11 c = (rw (c .before .before .before .x11 .given .1) (c .give-up .ensures .0), rw (c .before .before .before .x11 .given .1), rw (c .before .before .before .x11 .given .1), rw (c .before .before .before .x11 .given .1) (c .give-up .ensures .1))
 
 pub decide-spec : {M : Type 1} → statement M
 decide-spec =

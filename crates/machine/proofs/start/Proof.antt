@@ -1,32 +1,24 @@
-use Rattle.protocol.specs.Steps.{startAnswer, startStore, startOpens}
+use mathlib.Core.Path.{refl}
+use Rattle.protocol.specs.Steps.{startAnswer, startSwitch, startStore, startOpens}
 use borrow.Author.Needs.{needs}
 use Rattle.machine.proofs.start.Statement.{statement}
 use Rattle.machine.proofs.start.Tie as tie
 
 returns : tie.Need-returns
-unfolding startAnswer startStore startOpens
-returns c =
-    let refused = c .before .before .start-refused .ensures in
-    let yes = c .before .if1 .taken in
-    (simp (← refused, yes, c .start-state .ensures), simp (← refused, yes), simp (← refused, yes))
+unfolding startAnswer startSwitch startStore startOpens
+returns c = simp (← c .before .start-refused .ensures, c .if1 .taken) (refl, refl, refl, refl)
 
 returns-2 : tie.Need-returns-2
-unfolding startAnswer startStore startOpens
-returns-2 c =
-    let refused = c .before .before .before .before .before .before .start-refused .ensures in
-    let no = c .before .before .before .before .before .if1 .left in (
-      simp (← refused, no, c .start-state2 .ensures),
-      simp (← refused, no) (c .before .before .before .clear .ensures),
-      simp (← refused, no) (c .before .clear2 .ensures),
-    )
+unfolding startAnswer startSwitch startStore startOpens
+returns-2 c = simp (← c .before .before .before .before .before .before .before .before .start-refused .ensures, c .before .before .before .before .before .before .before .if1 .left, c .before .before .before .before .before .new .ensures, c .before .before .before .before .store .ensures, c .before .before .clear .ensures, c .clear2 .ensures) (refl, refl, refl, refl)
 
 pub start-spec : {M : Type 1} → statement M
 start-spec =
     tie.close
     (tie.spec
     (λ c κs. search needs)
-    (λ c κs. search needs)
     returns
+    (λ c κs. search needs)
     (λ c κs. search needs)
     (λ c κs. search needs)
     (λ c κs. search needs)

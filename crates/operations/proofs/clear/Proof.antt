@@ -2,10 +2,7 @@ use mathlib.Core.Path.{refl}
 use Rattle.operations.specs.{noneOpen}
 use Rattle.operations.proofs.clear.Statement.{statement}
 use Rattle.operations.proofs.clear.Tie as tie
-use Rattle.operations.proofs.clear.Reads as reads
-use Rattle.operations.proofs.clear.Lts as lts
 
--- src/lib.rt:73:1
 returns : tie.Need-returns
 unfolding noneOpen
 returns c = refl

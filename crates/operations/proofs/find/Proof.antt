@@ -1,43 +1,38 @@
--- The loop's invariant: none of the first i cells has the number.
+-- The loop's invariant: none of the first i open numbers is the operation's.
 use mathlib.Core.Path.{_≡_, sym, _∙_}
-use mathlib.Core.List.{List}
 use Prim.Native.Nat.{ℕ, _-_, _≤_, _<_}
 use native.Mathlib.Omega.{arith}
-use lib.ListN.{length, getD}
+use lib.ListN.{getD}
 use borrow.Author.Count.{below-more, below-none}
 use borrow.Author.Needs.{needs}
-use Rattle.lists.specs.{indexOf}
-use Rattle.lists.proofs.Index.{index-first, index-none}
+use Rattle.operations.specs.{openCount}
+use Rattle.operations.proofs.Laws.{place-first, place-none}
 use Rattle.operations.proofs.find.Statement.{statement}
 use Rattle.operations.proofs.find.Tie as tie
 
 abbrev Inv-loop : tie.InvT-loop
-Inv-loop o cells i₀ i = (i ≤ 64) × (length cells ≡ 64) × ((k : ℕ) → k < i → getD cells k 0 ≡ o → ⊥)
+Inv-loop cells o n i₀ i = (i ≤ n) × (n ≡ openCount cells) × (n ≤ 64) × ((k : ℕ) → k < i → getD cells k 0 ≡ o → ⊥)
 
 abbrev μ-loop : tie.MeasureT-loop
-μ-loop o cells i₀ i = 64 - i
+μ-loop cells o n i₀ i = n - i
 
 loop-holds : tie.Need-loop-holds Inv-loop μ-loop
-loop-holds c = (omega arith, search needs, below-none _)
+loop-holds c = (omega arith, c .count .ensures .0, c .count .ensures .1, below-none _)
 
 returns : tie.Need-returns Inv-loop μ-loop
 returns c =
-    let turn = c .before .before .loop in
-    (sym (index-first _ (turn .i) _ (omega arith) (turn .inv .2) (c .if1 .taken)), turn .inv .1)
+    let turn = c .before .before .before .loop in
+    sym (place-first _ _ (turn .i) (omega arith) (turn .inv .3) (c .if1 .taken))
 
 loop-again : tie.Need-loop-again Inv-loop μ-loop
 loop-again c =
-    let turn = c .before .before .loop in
-    (omega arith, turn .inv .1, below-more _ _ (turn .inv .2) (c .if1 .left))
-
--- no cell has it
-nowhere : (i : ℕ) (l : List ℕ) (o : ℕ) → i ≡ 64 → length l ≡ 64 → ((k : ℕ) → k < i → getD l k 0 ≡ o → ⊥) → i ≡ indexOf l o
-nowhere i l o e h never = e ∙ sym h ∙ sym (index-none l o (λ k b. never k (omega arith)))
+    let turn = c .before .before .before .loop in
+    (omega arith, turn .inv .1, turn .inv .2, below-more _ _ (turn .inv .3) (c .if1 .left))
 
 returns-2 : tie.Need-returns-2 Inv-loop μ-loop
 returns-2 c =
     let done = c .before .loop in
-    (nowhere (done .i) _ _ (omega arith) (done .inv .1) (done .inv .2), done .inv .1)
+    done .inv .1 ∙ sym (place-none _ _ (λ k b. done .inv .3 k (omega arith)))
 
 pub find-spec : {M : Type 1} → statement M
 find-spec =
@@ -45,6 +40,7 @@ find-spec =
     (tie.spec
     Inv-loop
     μ-loop
+    (λ c κs. search needs)
     loop-holds
     (λ c. search needs)
     (λ c. search needs)

@@ -1,19 +1,18 @@
-use lib.ListN.{replicate}
-use Rattle.limits.specs as limits
-use Rattle.waiting.specs.Waiting.{blank}
+use mathlib.Core.Path.{ap, _∙_}
 use Rattle.operations.specs.{noneOpen}
-use Rattle.replicas.specs.Store.{emptyStore}
-use Rattle.runs.proofs.Filling.{filled-whole}
+use Rattle.replicas.specs.Chain.{emptyCells}
 use borrow.Author.Needs.{needs}
+use Rattle.runs.proofs.Output.{print-holds}
 use Rattle.runs.proofs.print.Statement.{statement}
 use Rattle.runs.proofs.print.Tie as tie
 
 returns : tie.Need-returns
-unfolding emptyStore noneOpen
+unfolding emptyCells noneOpen
 returns c =
-    let first = c .before .before .before .before .before .before .before .before .first in
-    let rest = c .before .before .print-from in
-    filled-whole _ _ _ _ _ _ (first .ensures (replicate limits.waiting blank)) _ _ (rest .ensures .0) (rest .ensures .1)
+    let begun = c .before .before .before .before .before .before .before .before .before .before .first in
+    let blanks = c .before .before .before .before .before .before .before .blank-places in
+    let all = c .before .before .print-piece .ensures in
+    print-holds _ _ _ _ _ (blanks .result) _ _ (blanks .ensures) (begun .ensures (blanks .result)) _ _ (all .place) (all .there)
 
 pub print-spec : {M : Type 1} → statement M
-print-spec = tie.close (tie.spec (λ c κs. search needs) (λ c κs. search needs) (λ c. search needs) returns)
+print-spec = tie.close (tie.spec (λ c κs. search needs) (λ c κs. search needs) (λ c κs. search needs) (λ c. search needs) returns)

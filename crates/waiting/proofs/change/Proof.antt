@@ -53,7 +53,7 @@ use Rattle.waiting.proofs.Plan as TP
 use Rattle.waiting.proofs.Plan.Laws as TP′
 use Rattle.waiting.proofs.Again.{LentAgain, lends-again, comes-back}
 use Rattle.waiting.proofs.Parts.{vals, slice, unit-typed}
-use Rattle.waiting.proofs.Plans.{plan-edits}
+use Rattle.waiting.proofs.Plans.{plan-edits, plan-within}
 use Rattle.waiting.proofs.Lent.{lent, lent-val, Lent, evals}
 use Rattle.waiting.proofs.plan_of as pl
 use Rattle.waiting.proofs.plan_of.Symbol as pl-def
@@ -151,10 +151,10 @@ module _ {M : Type 1} (𝓤 : URA M) (H : Heap 𝓤) (A : Atoms 𝓤) (W : Given
     ys₁ = moves blank ys (P .from) (P .last - P .from)
 
     abbrev ys₂ : List Packet
-    ys₂ = set ys₁ (P .place) (P .first)
+    ys₂ = set ys₁ (P .place) (e .first)
 
     abbrev ys₃ : List Packet
-    ys₃ = set ys₂ (P .next) (P .second)
+    ys₃ = set ys₂ (P .next) (e .second)
 
     -- ---- plan_of
     abbrev asked : ℕ × (ℕ × (Edit × Unit {0}))
@@ -169,15 +169,15 @@ module _ {M : Type 1} (𝓤 : URA M) (H : Heap 𝓤) (A : Atoms 𝓤) (W : Given
         owned ! usize (Is usize) (uint-makes 𝓤 H A W w64) (length ys) _ (refl, room .0) $ fjoin ! $ nothing ! $ join ! $ frame ! $ done !
 
     abbrev Planned : Val → Type 0
-    Planned w = Is TP.the-row P (w ∷ []) × ((P .from ≤ P .last) × (P .last ≤ length ys - 1))
+    Planned w = Is TP.the-row P (w ∷ [])
 
     gives-plan : (w : Val) → ent 𝓤 (Planning 𝓤 H A mem run .post to-plan w) (H .⇛ (guard 𝓤 (Planned w) (sem 𝓤 H A ftrue)))
     gives-plan w =
         qed W (raw (Planning 𝓤 H A mem run .post to-plan w) ∷ []) ∵ updating ! $
         use1 W (later (some (λ (v : Plan). (‵ ftrue ⊛ ‵ (TP.the-row .own v (w ∷ []))) ⊛ raw (ensured 𝓤 H A pl.ended (pl.clauses 𝓤 H A mem run) tt asked tt v)))) (id⊢ 𝓤 _) $ await ! tt $ pick ! (λ v.
-        split ! $ move ! (1 ∷ []) $ use1 W (some (λ (ws : Unit {0} × (Unit {0} × (Unit {0} × Unit {0}))). ‵ (lasts pl.ended tt asked ws) ⊛ raw (fact 𝓤 ((v ≡ P) × (v .from ≤ v .last) × (v .last ≤ length ys - 1))))) (id⊢ 𝓤 _) $ pick ! (λ ws.
-        split ! $ move ! (1 ∷ []) $ heard ! ((v ≡ P) × (v .from ≤ v .last) × (v .last ≤ length ys - 1)) (λ is. move ! (1 ∷ []) $ split ! $ move ! (1 ∷ []) $ peeks ! TP.the-row (Is TP.the-row) (shows 𝓤 H A TP.the-row) v (w ∷ []) (λ iw.
-        at-once ! $ check ! (subst (λ (u : Plan). Is TP.the-row u (w ∷ []) × ((u .from ≤ u .last) × (u .last ≤ length ys - 1))) (is .0) (iw, (is .1, is .2))) $ keep ! (1 ∷ []) $ done !))))
+        split ! $ move ! (1 ∷ []) $ use1 W (some (λ (ws : Unit {0} × (Unit {0} × (Unit {0} × Unit {0}))). ‵ (lasts pl.ended tt asked ws) ⊛ raw (fact 𝓤 (v ≡ P)))) (id⊢ 𝓤 _) $ pick ! (λ ws.
+        split ! $ move ! (1 ∷ []) $ heard ! (v ≡ P) (λ is. move ! (1 ∷ []) $ split ! $ move ! (1 ∷ []) $ peeks ! TP.the-row (Is TP.the-row) (shows 𝓤 H A TP.the-row) v (w ∷ []) (λ iw.
+        at-once ! $ check ! (subst (λ (u : Plan). Is TP.the-row u (w ∷ [])) is iw) $ keep ! (1 ∷ []) $ done !))))
 
     -- ---- the exit
     exits : P .count < 2 ^ 64 → length ys₃ ≡ length ys → ent 𝓤 (⋆ 𝓤 H A (‵ (flft κ q) ∷ ‵ (finally T.the-row γ ys₃) ∷ [])) (Post (vint w64 (P .count)))
@@ -201,15 +201,16 @@ module _ {M : Type 1} (𝓤 : URA M) (H : Heap 𝓤) (A : Atoms 𝓤) (W : Given
           use0 W (raw (Planning 𝓤 H A mem run .pre to-plan)) goes-plan $
           calls-at ! fm (Planning 𝓤 H A mem run) plans to-plan (and-then ! (load ! (from ! (stop !)) (look ! 18 refl)) (and-then ! (load ! (from ! (stop !)) (look ! 24 refl)) (and-then ! (load ! (from ! (stop !)) (look ! 22 refl)) (no-more !)))) (λ w.
           use1 W (later (given (Planned w) (‵ ftrue))) (gives-plan w) $ await ! tt $ learn ! (λ il. drop ! $
-          let told : w ∷ [] ≡ pvals P = LL.tells TP.the-type TP′.the-laws P (w ∷ []) (il .0) in
-          let fields = LL.owed TP.the-type TP′.the-laws P _ (subst (Is TP.the-row P) told (il .0)) in
-          land ! (from ! (stop !)) (init ! 19 refl (LL.lawful TP.the-type TP′.the-laws 𝓤 H A W .typed P _ (il .0) .0)) $ rewrite ! 19 (λ (u : Val). ‵ (fat fullShare TP′.mir l₄ 0 u)) (ap only told) refl $
+          let told : w ∷ [] ≡ pvals P = LL.tells TP.the-type TP′.the-laws P (w ∷ []) il in
+          let fields = LL.owed TP.the-type TP′.the-laws P _ (subst (Is TP.the-row P) told il) in
+          let parts = LL.owed TE.the-type TE′.the-laws e _ ge in
+          land ! (from ! (stop !)) (init ! 19 refl (LL.lawful TP.the-type TP′.the-laws 𝓤 H A W .typed P _ il .0)) $ rewrite ! 19 (λ (u : Val). ‵ (fat fullShare TP′.mir l₄ 0 u)) (ap only told) refl $
           -- the list is lent again to `close_up`, and comes back
           assigns ! (addr ! (from ! (fld ! refl (hop ! (look-in ! 25 (sub ! 0 refl (whole !))) (stop !))))) (from ! (stop !)) (init ! 13 refl (tt, tt)) $
           assigns ! (agg ! (and-then ! (load ! (from ! (stop !)) (look ! 13 refl)) (and-then ! (load ! (from ! (fld ! refl (stop !))) (look-in ! 25 (sub ! 1 refl (whole !)))) (no-more !)))) (from ! (stop !)) (init ! 11 refl (tt, (tt, (record { fits = room .0 }, tt)))) $
           lft-new ! tt (λ ν. move ! (1 ∷ 2 ∷ []) $
           use2 W (later (some (λ (δ : GName). ‵ (Lent b o (ν ∷ []) δ ys) ⊛ ‵ (LentAgain T.the-row κ (ν ∷ []) q γ b o δ ys)))) (lends-again T.the-row κ (ν ∷ []) q γ b o 𝓤 H A W (named 0) (named 0) ys) $ await ! tt $ pick ! (λ δ. split ! $
-          move ! (2 ∷ 0 ∷ []) $ use2 W (raw (Closing 𝓤 H A mem run .pre (to-close (ν ∷ []) fullShare δ ys (P .from) (P .last)))) (goes-close (ν ∷ []) fullShare δ ys (P .from) (P .last) (fields .0 .1) (fields .1 .0 .1) (il .1)) $
+          move ! (2 ∷ 0 ∷ []) $ use2 W (raw (Closing 𝓤 H A mem run .pre (to-close (ν ∷ []) fullShare δ ys (P .from) (P .last)))) (goes-close (ν ∷ []) fullShare δ ys (P .from) (P .last) (fields .0 .1) (fields .1 .0 .1) (plan-within (length ys) n e)) $
           calls-at ! fm (Closing 𝓤 H A mem run) closes (to-close (ν ∷ []) fullShare δ ys (P .from) (P .last)) (and-then ! (load ! (from ! (stop !)) (look ! 11 refl)) (and-then ! (load ! (from ! (fld ! refl (stop !))) (look-in ! 19 (sub ! 0 refl (whole !)))) (and-then ! (load ! (from ! (fld ! refl (stop !))) (look-in ! 19 (sub ! 1 refl (whole !)))) (no-more !)))) (λ w₁.
           use1 W (later (given (Closed (ν ∷ []) fullShare δ ys w₁ (P .from) (P .last)) (‵ (flft (ν ∷ []) fullShare) ⊛ ‵ (finally T.the-row δ ys₁)))) (gives-close (ν ∷ []) fullShare δ ys (P .from) (P .last) w₁) $ await ! tt $ learn ! (λ i₁. split ! $
           let long₁ : length ys₁ ≡ length ys = i₁ .1 in
@@ -222,10 +223,10 @@ module _ {M : Type 1} (𝓤 : URA M) (H : Heap 𝓤) (A : Atoms 𝓤) (W : Given
           assigns ! (agg ! (and-then ! (load ! (from ! (stop !)) (look ! 9 refl)) (and-then ! (load ! (from ! (fld ! refl (stop !))) (look-in ! 25 (sub ! 1 refl (whole !)))) (no-more !)))) (from ! (stop !)) (init ! 7 refl (tt, (tt, (record { fits = room₁ .0 }, tt)))) $
           lft-new ! tt (λ ν₂. move ! (1 ∷ 2 ∷ []) $
           use2 W (later (some (λ (δ : GName). ‵ (Lent b o (ν₂ ∷ []) δ ys₁) ⊛ ‵ (LentAgain T.the-row κ (ν₂ ∷ []) q γ b o δ ys₁)))) (lends-again T.the-row κ (ν₂ ∷ []) q γ b o 𝓤 H A W (named 0) (named 0) ys₁) $ await ! tt $ pick ! (λ δ₂. split ! $
-          move ! (2 ∷ 0 ∷ []) $ use2 W (raw (Putting 𝓤 H A mem run .pre (to-put (ν₂ ∷ []) fullShare δ₂ ys₁ (P .place) (P .first)))) (goes-put (ν₂ ∷ []) fullShare δ₂ ys₁ (P .place) (P .first) (fields .1 .1 .0 .1) (fields .1 .1 .1 .0)) $
-          calls-at ! fm (Putting 𝓤 H A mem run) puts (to-put (ν₂ ∷ []) fullShare δ₂ ys₁ (P .place) (P .first)) (and-then ! (load ! (from ! (stop !)) (look ! 7 refl)) (and-then ! (load ! (from ! (fld ! refl (stop !))) (look-in ! 19 (sub ! 2 refl (whole !)))) (and-then ! (load ! (from ! (fld ! refl (stop !))) (look-in ! 19 (sub ! 3 refl (whole !)))) (no-more !)))) (λ w₂.
-          use1 W (later (given (w₂ ≡ vunit) (‵ (flft (ν₂ ∷ []) fullShare) ⊛ ‵ (finally T.the-row δ₂ ys₂)))) (gives-put (ν₂ ∷ []) fullShare δ₂ ys₁ (P .place) (P .first) w₂) $ await ! tt $ learn ! (λ i₂. split ! $
-          let long₂ : length ys₂ ≡ length ys₁ = length-set ys₁ (P .place) (P .first) in
+          move ! (2 ∷ 0 ∷ []) $ use2 W (raw (Putting 𝓤 H A mem run .pre (to-put (ν₂ ∷ []) fullShare δ₂ ys₁ (P .place) (e .first)))) (goes-put (ν₂ ∷ []) fullShare δ₂ ys₁ (P .place) (e .first) (fields .1 .1 .0 .1) (parts .1 .1 .1 .0)) $
+          calls-at ! fm (Putting 𝓤 H A mem run) puts (to-put (ν₂ ∷ []) fullShare δ₂ ys₁ (P .place) (e .first)) (and-then ! (load ! (from ! (stop !)) (look ! 7 refl)) (and-then ! (load ! (from ! (fld ! refl (stop !))) (look-in ! 19 (sub ! 2 refl (whole !)))) (and-then ! (load ! (from ! (fld ! refl (stop !))) (look-in ! 21 (sub ! 3 refl (whole !)))) (no-more !)))) (λ w₂.
+          use1 W (later (given (w₂ ≡ vunit) (‵ (flft (ν₂ ∷ []) fullShare) ⊛ ‵ (finally T.the-row δ₂ ys₂)))) (gives-put (ν₂ ∷ []) fullShare δ₂ ys₁ (P .place) (e .first) w₂) $ await ! tt $ learn ! (λ i₂. split ! $
+          let long₂ : length ys₂ ≡ length ys₁ = length-set ys₁ (P .place) (e .first) in
           let room₂ : Room T.the-row (length ys₂) = subst (Room T.the-row) (sym long₂) room₁ in
           land ! (from ! (stop !)) (store ! 16 refl (unit-typed w₂ i₂)) $ lft-end ! tt $ move ! (0 ∷ 2 ∷ 1 ∷ []) $
           use3 W (later (‵ (MutSlice (named 0) κ T.the-row .own (lent b o γ ys₂) (lent-val b o ys₁ ∷ [])) ⊛ ‵ (flft κ q))) (comes-back T.the-row κ (ν₂ ∷ []) q γ b o 𝓤 H A W (named 0) (named 0) ys₁ δ₂ ys₂ room₁ long₂) $ await ! tt $ split ! $
@@ -233,16 +234,16 @@ module _ {M : Type 1} (𝓤 : URA M) (H : Heap 𝓤) (A : Atoms 𝓤) (W : Given
           -- and for good to the last `put`
           assigns ! (addr ! (from ! (fld ! refl (hop ! (look-in ! 25 (sub ! 0 refl (whole !))) (stop !))))) (from ! (stop !)) (init ! 5 refl (tt, tt)) $
           assigns ! (agg ! (and-then ! (load ! (from ! (stop !)) (look ! 5 refl)) (and-then ! (load ! (from ! (fld ! refl (stop !))) (look-in ! 25 (sub ! 1 refl (whole !)))) (no-more !)))) (from ! (stop !)) (init ! 3 refl (tt, (tt, (record { fits = room₂ .0 }, tt)))) $
-          move ! (1 ∷ 0 ∷ []) $ use2 W (raw (Putting 𝓤 H A mem run .pre (to-put κ q γ ys₂ (P .next) (P .second)))) (goes-put κ q γ ys₂ (P .next) (P .second) (fields .1 .1 .1 .1 .0 .1) (fields .1 .1 .1 .1 .1 .0)) $
-          calls-at ! fm (Putting 𝓤 H A mem run) puts (to-put κ q γ ys₂ (P .next) (P .second)) (and-then ! (load ! (from ! (stop !)) (look ! 2 refl)) (and-then ! (load ! (from ! (fld ! refl (stop !))) (look-in ! 18 (sub ! 4 refl (whole !)))) (and-then ! (load ! (from ! (fld ! refl (stop !))) (look-in ! 18 (sub ! 5 refl (whole !)))) (no-more !)))) (λ w₃.
-          use1 W (later (given (w₃ ≡ vunit) (‵ (flft κ q) ⊛ ‵ (finally T.the-row γ ys₃)))) (gives-put κ q γ ys₂ (P .next) (P .second) w₃) $ await ! tt $ learn ! (λ i₃. split ! $
+          move ! (1 ∷ 0 ∷ []) $ use2 W (raw (Putting 𝓤 H A mem run .pre (to-put κ q γ ys₂ (P .next) (e .second)))) (goes-put κ q γ ys₂ (P .next) (e .second) (fields .1 .1 .1 .0 .1) (parts .1 .1 .1 .1 .0)) $
+          calls-at ! fm (Putting 𝓤 H A mem run) puts (to-put κ q γ ys₂ (P .next) (e .second)) (and-then ! (load ! (from ! (stop !)) (look ! 2 refl)) (and-then ! (load ! (from ! (fld ! refl (stop !))) (look-in ! 18 (sub ! 3 refl (whole !)))) (and-then ! (load ! (from ! (fld ! refl (stop !))) (look-in ! 20 (sub ! 4 refl (whole !)))) (no-more !)))) (λ w₃.
+          use1 W (later (given (w₃ ≡ vunit) (‵ (flft κ q) ⊛ ‵ (finally T.the-row γ ys₃)))) (gives-put κ q γ ys₂ (P .next) (e .second) w₃) $ await ! tt $ learn ! (λ i₃. split ! $
           land ! (from ! (stop !)) (store ! 15 refl (unit-typed w₃ i₃)) $
           -- [the token; the last list; true; _12; …; _4; …; room for _0; …]
-          assigns ! (of-opd ! (load ! (from ! (fld ! refl (stop !))) (look-in ! 19 (sub ! 6 refl (whole !))))) (from ! (stop !)) (init ! 27 refl (tt, record { fits = fields .1 .1 .1 .1 .1 .1 .0 .1 })) $
+          assigns ! (of-opd ! (load ! (from ! (fld ! refl (stop !))) (look-in ! 19 (sub ! 4 refl (whole !))))) (from ! (stop !)) (init ! 27 refl (tt, record { fits = fields .1 .1 .1 .1 .0 .1 })) $
           returns ! (look ! 27 refl) $ forget ! 3 refl $ forget ! 5 refl $ forget ! 7 refl $ forget ! 9 refl $ forget ! 11 refl $ forget ! 13 refl $ forget ! 15 refl $ forget ! 17 refl $ forget ! 19 refl $ forget ! 21 refl $ forget ! 23 refl $ forget ! 25 refl $ forget ! 27 refl $
           move ! (27 ∷ 28 ∷ []) $ free1 ! $ move ! (25 ∷ 26 ∷ []) $ free1 ! $ move ! (23 ∷ 24 ∷ []) $ free1 ! $ move ! (21 ∷ 22 ∷ []) $ free1 ! $ move ! (19 ∷ 20 ∷ []) $ free1 ! $ move ! (17 ∷ 18 ∷ []) $ free1 ! $ move ! (15 ∷ 16 ∷ []) $ free1 ! $
           move ! (13 ∷ 14 ∷ []) $ free1 ! $ move ! (11 ∷ 12 ∷ []) $ free1 ! $ move ! (9 ∷ 10 ∷ []) $ free1 ! $ move ! (7 ∷ 8 ∷ []) $ free1 ! $ move ! (5 ∷ 6 ∷ []) $ free1 ! $ move ! (3 ∷ 4 ∷ []) $ free1 ! $ free0 ! $
-          keep ! (0 ∷ 1 ∷ []) $ by ! (exits (fields .1 .1 .1 .1 .1 .1 .0 .1) (length-set ys₂ (P .next) (P .second) ∙ long₂ ∙ long₁)))))))))))))))))))))))))))
+          keep ! (0 ∷ 1 ∷ []) $ by ! (exits (fields .1 .1 .1 .1 .0 .1) (length-set ys₂ (P .next) (e .second) ∙ long₂ ∙ long₁)))))))))))))))))))))))))))
 
 module _ {M : Type 1} (𝓤 : URA M) (H : Heap 𝓤) (A : Atoms 𝓤) (W : Given 𝓤 H A) (mem : Memory → SProp 𝓤) (run : Routine → Fun 𝓤) where
   change-walks : (C : Calls 𝓤 H) (Λ : Loops 𝓤 H) → FmC 𝓤 H (W .laws) C → Triple 𝓤 (C #waiting·plan-of) (Planning 𝓤 H A mem run) → Triple 𝓤 (C #waiting·close-up) (Closing 𝓤 H A mem run) → Triple 𝓤 (C #waiting·put) (Putting 𝓤 H A mem run)

@@ -1,13 +1,12 @@
 use mathlib.Core.Path.{refl}
-use native.Mathlib.Omega.{arith}
-use borrow.Author.Needs.{needs}
 use Rattle.replicas.specs.Store.{entryCell}
+use borrow.Author.Needs.{needs}
 use Rattle.replicas.proofs.store.entry_cell.Statement.{statement}
 use Rattle.replicas.proofs.store.entry_cell.Tie as tie
 
 returns : tie.Need-returns
 unfolding entryCell
-returns c = (refl, omega arith)
+returns c = (refl, search needs)
 
 pub entry-cell-spec : {M : Type 1} → statement M
 entry-cell-spec = tie.close (tie.spec (λ c. search needs) (λ c. search needs) (λ c. search needs) (λ c. search needs) returns)

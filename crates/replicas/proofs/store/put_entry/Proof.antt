@@ -1,17 +1,11 @@
-use borrow.Author.Needs.{needs}
 use Rattle.replicas.specs.Store.{logged}
+use borrow.Author.Needs.{needs}
 use Rattle.replicas.proofs.store.put_entry.Statement.{statement}
 use Rattle.replicas.proofs.store.put_entry.Tie as tie
 
 returns : tie.Need-returns
 unfolding logged
-returns c =
-    simp (
-      ← c .before .before .before .entry-cell .ensures .0,
-      ← c .before .before .entry-cell2 .ensures .0,
-      ← c .before .entry-cell3 .ensures .0,
-      ← c .entry-cell4 .ensures .0,
-    )
+returns c = simp (← c .before .before .before .entry-cell .ensures .0, ← c .before .before .entry-cell2 .ensures .0, ← c .before .entry-cell3 .ensures .0, c .entry-cell4 .ensures .0)
 
 pub put-entry-spec : {M : Type 1} → statement M
 put-entry-spec =

@@ -1,11 +1,11 @@
+use Rattle.replicas.specs.Store.{tabled}
 use borrow.Author.Needs.{needs}
-use Rattle.replicas.specs.Store.{written}
 use Rattle.replicas.proofs.store.put_write.Statement.{statement}
 use Rattle.replicas.proofs.store.put_write.Tie as tie
 
 returns : tie.Need-returns
-unfolding written
-returns c = simp (← c .before .value-cell .ensures .0, ← c .stamp-cell .ensures .0)
+unfolding tabled
+returns c = simp (← c .before .value-cell .ensures .0, c .stamp-cell .ensures .0)
 
 pub put-write-spec : {M : Type 1} → statement M
 put-write-spec =

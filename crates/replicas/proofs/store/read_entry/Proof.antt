@@ -1,17 +1,11 @@
-use borrow.Author.Needs.{needs}
 use Rattle.replicas.specs.Store.{entryAt}
+use borrow.Author.Needs.{needs}
 use Rattle.replicas.proofs.store.read_entry.Statement.{statement}
 use Rattle.replicas.proofs.store.read_entry.Tie as tie
 
 returns : tie.Need-returns
 unfolding entryAt
-returns c =
-    simp (
-      ← c .before .before .before .before .before .before .before .entry-cell .ensures .0,
-      ← c .before .before .before .before .before .before .entry-cell2 .ensures .0,
-      ← c .before .before .before .before .before .entry-cell3 .ensures .0,
-      ← c .before .before .before .before .entry-cell4 .ensures .0,
-    )
+returns c = simp (← c .before .before .before .before .before .before .before .entry-cell .ensures .0, ← c .before .before .before .before .before .before .entry-cell2 .ensures .0, ← c .before .before .before .before .before .entry-cell3 .ensures .0, ← c .before .before .before .before .entry-cell4 .ensures .0)
 
 pub read-entry-spec : {M : Type 1} → statement M
 read-entry-spec =

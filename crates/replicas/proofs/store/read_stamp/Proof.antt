@@ -1,5 +1,5 @@
-use borrow.Author.Needs.{needs}
 use Rattle.replicas.specs.Store.{stampAt}
+use borrow.Author.Needs.{needs}
 use Rattle.replicas.proofs.store.read_stamp.Statement.{statement}
 use Rattle.replicas.proofs.store.read_stamp.Tie as tie
 

@@ -1,5 +1,5 @@
-use borrow.Author.Needs.{needs}
 use Rattle.replicas.specs.Store.{valueAt}
+use borrow.Author.Needs.{needs}
 use Rattle.replicas.proofs.store.read_value.Statement.{statement}
 use Rattle.replicas.proofs.store.read_value.Tie as tie
 

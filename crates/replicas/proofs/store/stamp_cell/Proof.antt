@@ -1,12 +1,12 @@
-use native.Mathlib.Omega.{arith}
-use borrow.Author.Needs.{needs}
+use mathlib.Core.Path.{refl}
 use Rattle.replicas.specs.Store.{stampCell}
+use borrow.Author.Needs.{needs}
 use Rattle.replicas.proofs.store.stamp_cell.Statement.{statement}
 use Rattle.replicas.proofs.store.stamp_cell.Tie as tie
 
 returns : tie.Need-returns
 unfolding stampCell
-returns c = (rw (← c .row .ensures .0), omega (arith, c .row .ensures .1))
+returns c = simp (c .row .ensures .0) (refl, search needs)
 
 pub stamp-cell-spec : {M : Type 1} → statement M
 stamp-cell-spec =

@@ -1,12 +1,13 @@
-use native.Mathlib.Omega.{arith}
-use borrow.Author.Needs.{needs}
+use mathlib.Core.Path.{refl}
 use Rattle.replicas.specs.Store.{valueCell}
+use borrow.Author.Needs.{needs}
 use Rattle.replicas.proofs.store.value_cell.Statement.{statement}
 use Rattle.replicas.proofs.store.value_cell.Tie as tie
 
 returns : tie.Need-returns
 unfolding valueCell
-returns c = (rw (← c .row .ensures .0), omega (arith, c .row .ensures .1))
+returns c = simp (c .row .ensures .0) (refl, search needs)
 
 pub value-cell-spec : {M : Type 1} → statement M
-value-cell-spec = tie.close (tie.spec (λ c κs. search needs) (λ c. search needs) (λ c. search needs) (λ c. search needs) returns)
+value-cell-spec =
+    tie.close (tie.spec (λ c κs. search needs) (λ c. search needs) (λ c. search needs) (λ c. search needs) (λ c. search needs) returns)

@@ -1,5 +1,6 @@
 use mathlib.Core.Path.{refl}
 use Rattle.switch.specs.DirtySet.{newSwitch}
+use borrow.Author.Needs.{needs}
 use Rattle.switch.proofs.Switch.new.Statement.{statement}
 use Rattle.switch.proofs.Switch.new.Tie as tie
 
@@ -8,4 +9,4 @@ unfolding newSwitch
 returns c = refl
 
 pub new-spec : {M : Type 1} → statement M
-new-spec = tie.close (tie.spec returns)
+new-spec = tie.close (tie.spec (λ c. search needs) returns)

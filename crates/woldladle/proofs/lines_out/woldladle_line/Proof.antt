@@ -1,28 +1,25 @@
+use borrow.Author.Tests.{le-leb, lt-leb}
+use Rattle.woldladle.specs.Calls.{putBytes}
 use borrow.Author.Needs.{needs}
 use Rattle.woldladle.proofs.lines_out.woldladle_line.Statement.{statement}
 use Rattle.woldladle.proofs.lines_out.woldladle_line.Tie as tie
 
+same-length : tie.Need-same-length
+same-length c = search needs
+
 returns : tie.Need-returns
-returns c =
-    let line = c .before .before .before .before .before .before .before .line-for .ensures in
-    let put = c .before .before .before .before .before .put .ensures in
-    (simp (← line, ← put .0, c .before .n .given .1), simp (← line) (put .1))
+unfolding putBytes
+returns c = let put = c .before .before .before .put-line .ensures in
+    (simp (← put .0, le-leb _ _ (c .if1 .taken)), put .1)
+
+same-length-2 : tie.Need-same-length-2
+same-length-2 c = search needs
 
 returns-2 : tie.Need-returns-2
-returns-2 c =
-    let line = c .before .before .before .before .before .before .line-for .ensures in
-    let put = c .before .before .before .before .put .ensures in
-    (simp (← line, ← put .0, c .enum-told .given .1), simp (← line) (put .1))
+unfolding putBytes
+returns-2 c = let put = c .before .before .before .put-line .ensures in
+    (simp (← put .0, lt-leb _ _ (c .if1 .left)), put .1)
 
 pub woldladle-line-spec : {M : Type 1} → statement M
 woldladle-line-spec =
-    tie.close
-    (tie.spec
-    (λ c κs. search needs)
-    (λ c κs. search needs)
-    (λ c. search needs)
-    (λ c. search needs)
-    (λ c. search needs)
-    returns
-    (λ c. search needs)
-    returns-2)
+    tie.close (tie.spec (λ c κs. search needs) same-length returns same-length-2 returns-2)

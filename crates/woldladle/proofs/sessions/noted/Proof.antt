@@ -5,15 +5,8 @@ use Rattle.woldladle.proofs.sessions.noted.Tie as tie
 
 returns : tie.Need-returns
 unfolding sessionAfter
-returns c = simp (c .before .before .before .before .refusal-after .ensures, c .before .before .before .operation-in .ensures, c .before .before .value-in .ensures, c .before .held .ensures, c .count .ensures)
+returns c = simp (c .before .before .refusal-in .ensures, c .before .operation-in .ensures, c .value-in .ensures)
 
 pub noted-spec : {M : Type 1} → statement M
 noted-spec =
-    tie.close
-    (tie.spec
-    (λ c κs. search needs)
-    (λ c κs. search needs)
-    (λ c κs. search needs)
-    (λ c κs. search needs)
-    (λ c κs. search needs)
-    returns)
+    tie.close (tie.spec (λ c κs. search needs) (λ c κs. search needs) (λ c κs. search needs) returns)

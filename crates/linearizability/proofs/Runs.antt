@@ -1,0 +1,156 @@
+-- What holds of every run besides its order: what the theorems of links assume, and that an operation finishes once at the most, and never after it was
+-- given up.
+use mathlib.Core.Path.{_≡_, refl, sym, ap, _∙_, subst}
+use mathlib.Core.Bool.{true}
+use mathlib.Core.List.{List, [], _∷_, _++_}
+use mathlib.Core.Logic.{inl, inr}
+use Prim.Native.Nat.{ℕ, _+_, _≤_}
+use native.Mathlib.Omega.{arith}
+use lib.Dec.{ltb}
+use lib.ListN.{length}
+use Rattle.limits.specs as limits
+use Rattle.history.specs.History.{_∈_, History, begun, finished, Finished}
+use Rattle.history.specs.Linearizability.{Ahead}
+use Rattle.history.proofs.Tests.{by-test}
+use Rattle.history.proofs.Entries.{Entry, Unfinished}
+use Rattle.history.proofs.Growth.{begun-not-finished}
+use Rattle.operations.specs.{isOpen, lastGiven, roomToOpen, opening, closing}
+use Rattle.operations.proofs.Laws.{last-opening, open-before, last-closing, open-after-closing}
+use Rattle.replicas.specs.declared.Write.{Write}
+use Rattle.replicas.specs.Chain.{chainPlace}
+use Rattle.replicas.specs.Replicas.{accepts}
+use Rattle.replicas.specs.Links.{allLinks}
+use Rattle.replicas.proofs.Cells.{SizedStore}
+use Rattle.replicas.proofs.Moves.{accepts-live}
+use Rattle.replicas.proofs.Descending.{Descending}
+use Rattle.replicas.proofs.Links.{links-together}
+use Rattle.waiting.specs.declared.Packet.{Packet}
+use Rattle.protocol.specs.declared.Answer.the-variants.{Done, Refused}
+use Rattle.protocol.specs.declared.Message.the-variants.{StampedWrite}
+use Rattle.protocol.specs.declared.Step.{Step}
+use Rattle.protocol.specs.declared.Step.the-variants.{GiveUp}
+use Rattle.protocol.specs.Decisions.{Outcome, Opened, changingOpens, refusing}
+use Rattle.protocol.specs.Steps.{Machine, givenBy, outcomeOf, givingUp, decided, isMalformed, decidedIn, answerTo, after, started}
+use Rattle.log.proofs.Shows.{head-place}
+use Rattle.linearizability.specs.Run.{noted, historyFrom, historyOf}
+use Rattle.linearizability.proofs.Waits.{messages}
+use Rattle.linearizability.proofs.Invariant.{EndsOnce, Good}
+use Rattle.linearizability.proofs.Deliveries.{unfinished-other}
+use Rattle.linearizability.proofs.Steps.{unfinished-begin, both}
+use Rattle.linearizability.proofs.OneOrder.{good-after}
+use Rattle.linearizability.proofs.Limits.{reached, machineOf, good-run, linked-within}
+use Rattle.linearizability.proofs.Opens.{Change, stays, begins, finishes, gives-up, change}
+
+-- ---- the store of a run
+
+-- FOR EVERY NUMBER OF REPLICAS FROM 1 TO 8, EVERY LENT ROW OF PLACES AND EVERY LIST OF STEPS, refused ones included
+module _ (n : ℕ) (low : 1 ≤ n) (high : n ≤ 8) (row : List Packet) (xs : List Step) where
+  -- what crates/replicas/proofs/Links.antt assumes of a store: so its theorems are about the stores of runs
+  pub run-descending : Descending (machineOf n row xs .store)
+  run-descending = good-run n low high row xs .shown .falls
+
+  pub run-sized : SizedStore (machineOf n row xs .store)
+  run-sized = good-run n low high row xs .shown .sized
+
+  -- and of an accepted write: it is at the head
+  pub accepted-at-head : (r : ℕ) (w : Write) → StampedWrite r w ∈ messages (machineOf n row xs .waiting) → accepts (machineOf n row xs .store) r (w .stamp) ≡ true
+      → chainPlace (machineOf n row xs .store) r ≡ 0
+  accepted-at-head r w i a =
+      let g = good-run n low high row xs in
+      ap (chainPlace (machineOf n row xs .store)) (g .posted (StampedWrite r w) i (accepts-live (machineOf n row xs .store) r (w .stamp) a)) ∙ head-place (g .shown)
+
+  -- 'All links together hold at most 64 writes', counted link by link
+  pub links-within : allLinks (machineOf n row xs .store) ≤ 64
+  links-within = omega (arith, links-together (machineOf n row xs .store) run-descending, linked-within n low high row xs)
+
+-- ---- an operation finishes once
+
+ends-ahead : (h : History) → EndsOnce h → (o : ℕ) (us vs : List ℕ) → Ahead (finished o us) (finished o vs) h → ⊥
+ends-ahead [] u o us vs a = a
+ends-ahead (begun p k ∷ h) u o us vs (inl a) = begun-not-finished (sym (a .0))
+ends-ahead (begun p k ∷ h) u o us vs (inr a) = ends-ahead h u o us vs a
+ends-ahead (finished p ws ∷ h) u o us vs (inl a) = let same : o ≡ p = finished-same (a .0) in u .0 (vs, subst (λ (q : ℕ). finished q vs ∈ h) same (a .1))
+  where
+    finished-same : finished o us ≡ finished p ws → o ≡ p
+    finished-same e = cc
+ends-ahead (finished p ws ∷ h) u o us vs (inr a) = ends-ahead h (u .1) o us vs a
+
+-- no operation finishes twice, with whatever values
+pub finished-once : (n : ℕ) → 1 ≤ n → n ≤ 8 → (row : List Packet) (xs : List Step) (o : ℕ) (us vs : List ℕ)
+    → Ahead (finished o us) (finished o vs) (historyOf n row xs) → ⊥
+finished-once n low high row xs = ends-ahead (historyOf n row xs) (good-run n low high row xs .books .ends-once)
+
+-- ---- an operation that is open no more
+
+-- it has a number that was given, and is not open
+abbrev Shut : List ℕ → ℕ → Type 0
+Shut opens o = (isOpen opens o ≡ true → ⊥) × (o ≤ lastGiven opens)
+
+-- every step leaves it so, and does not finish it
+module _ {m : Machine} {h : History} {es : List Entry} (g : Good m h es) (o : ℕ) (s : Shut (m .opens) o) (u : Unfinished h o) where
+  shut-opening : roomToOpen (m .opens) ≡ true → Shut (opening (m .opens) (lastGiven (m .opens) + 1)) o
+  shut-opening room =
+      let next = lastGiven (m .opens) + 1 in (
+        λ e. elim (open-before (m .opens) next (g .books .cells) room o e) [ inl q ↦ omega (arith, s .1) | inr q ↦ s .0 q ],
+        omega (arith, s .1, last-opening (m .opens) next (g .books .cells) room),
+      )
+
+  shut-closing : (p : ℕ) → isOpen (m .opens) p ≡ true → Shut (closing (m .opens) p) o
+  shut-closing p still = (
+    λ e. s .0 (open-after-closing (m .opens) p (g .books .cells) still (g .books .open-once) o e .0),
+    rw (last-closing (m .opens) p (g .books .cells) still) (s .1),
+  )
+
+  shut-changed : {l cells' l' : List ℕ} {h' : History} → Change (m .opens) h l cells' h' l' → Shut cells' o × Unfinished h' o
+  shut-changed (stays c e q) = (rw c s, rw e u)
+  shut-changed (begins k room c e q) = (rw c (shut-opening room), rw e (unfinished-begin u))
+  shut-changed (finishes p v still c e q) =
+      (rw c (shut-closing p still), rw e (unfinished-other (λ d. s .0 (subst (λ (i : ℕ). isOpen (m .opens) i ≡ true) (sym d) still)) u))
+  shut-changed (gives-up p still c e q) = (rw c (shut-closing p still), rw e u)
+
+-- so no step of the rest of the run finishes it
+shut-run : {m : Machine} {h : History} {es : List Entry} → Good m h es → (o : ℕ) → Shut (m .opens) o → Unfinished h o → (xs : List Step)
+    → Unfinished (historyFrom m h xs) o
+shut-run g o s u [] = u
+shut-run {m} {h} g o s u (x ∷ xs) = let k = shut-changed g o s u (change m h [] x) in shut-run (good-after g x) o (k .0) (k .1) xs
+
+-- ---- an operation that was given up
+
+-- a give-up that is done: the operation was open, and is open no more
+abbrev GaveUp : List ℕ → ℕ → Outcome → Type 0
+GaveUp opens o u = u .decision .answer ≡ Done → (isOpen opens o ≡ true) × (u .opens ≡ closing opens o)
+
+gave-up : (m : Machine) (o : ℕ) → GaveUp (m .opens) o (outcomeOf m (GiveUp o))
+unfolding decidedIn decided givingUp refusing
+gave-up m o =
+    both P (isMalformed (GiveUp o)) refused
+    (both P (ltb (length (m .waiting .packets)) limits.waiting) refused
+    (by-test (λ (u : Opened). P (changingOpens (givenBy m) u)) (isOpen (m .opens) o) _ _ (λ still e. (still, refl)) (λ closed. refused)))
+  where
+    P : Outcome → Type 0
+    P = GaveUp (m .opens) o
+
+    refused : {A : Type 0} {r : _} → Refused r ≡ Done → A
+    refused e = absurd (let z : _≡_ {A = ℕ} 0 1 = cc in omega arith)
+
+-- the history of a run in two parts
+history-append : (m : Machine) (h : History) (xs ys : List Step) → historyFrom m h (xs ++ ys) ≡ historyFrom (reached m xs) (historyFrom m h xs) ys
+history-append m h [] ys = refl
+history-append m h (x ∷ xs) ys = history-append (after m x) (noted x (answerTo m x) h) xs ys
+
+-- 'give up this operation; it stays unfinished for good': whatever steps came before, and whatever steps follow
+pub given-up-unfinished : (n : ℕ) → 1 ≤ n → n ≤ 8 → (row : List Packet) (xs ys : List Step) (o : ℕ) → answerTo (machineOf n row xs) (GiveUp o) ≡ Done
+    → Finished (historyOf n row (xs ++ GiveUp o ∷ ys)) o → ⊥
+unfolding answerTo after
+given-up-unfinished n low high row xs ys o e =
+    let m = machineOf n row xs in
+    let g = good-run n low high row xs in
+    let b = g .books in
+    let t = gave-up m o e in
+    let was = b .opened o (t .0) in
+    let shut : Shut (closing (m .opens) o) o = (
+      λ q. open-after-closing (m .opens) o (b .cells) (t .0) (b .open-once) o q .1 refl,
+      omega (arith, b .bounded o (was .0) .1, b .numbered, last-closing (m .opens) o (b .cells) (t .0)),
+    ) in
+    rw (history-append (started n row) [] xs (GiveUp o ∷ ys))
+    (shut-run (good-after g (GiveUp o)) o (rw (t .1) shut) (was .1) ys)

@@ -1,0 +1,95 @@
+// Packets and the messages that they hold.
+ghost use mathlib.Core.Path.{_≡_};
+ghost use Rattle.protocol.specs.Messages.{packetOf, messageOf, isUnstamped, writeOf};
+use crate::Message;
+use limits::Number;
+use limits::Object;
+use limits::Operation;
+use limits::Replica;
+use limits::Stamp;
+use limits::Value;
+use replicas::Write;
+use waiting::Packet;
+
+fn packet(
+    kind: u8,
+    replica: Replica,
+    number: Number,
+    operation: Operation,
+    object: Object,
+    value: Value,
+    stamp: Stamp,
+) -> Packet
+    ensures { λ r. ⌜ r ≡ record { kind = kind; replica = replica; number = number; operation = operation; object = object; value = value; stamp = stamp } ⌝ }
+{
+    Packet {
+        kind,
+        replica,
+        number,
+        operation,
+        object,
+        value,
+        stamp,
+    }
+}
+
+// The packet that holds a message.
+pub fn packet_of(m: Message) -> Packet
+    ensures { λ r. ⌜ r ≡ packetOf m ⌝ }
+{
+    match m {
+        Message::UnstampedWrite(o, x, v) => packet(1, 0, 0, o, x, v, 0),
+        Message::SwitchRead(o, x) => packet(2, 0, 0, o, x, 0, 0),
+        Message::StampedWrite(r, w) => { packet(3, r, 0, w.operation, w.object, w.value, w.stamp) }
+        Message::DirectRead(r, number, t, o, x) => packet(4, r, number, o, x, 0, t),
+        Message::NormalRead(r, o, x) => packet(5, r, 0, o, x, 0, 0),
+        Message::Completion(x, t) => packet(6, 0, 0, 0, x, 0, t),
+        Message::Reply(o, v) => packet(7, 0, 0, o, 0, v, 0),
+        Message::Unknown => Packet::blank(),
+    }
+}
+
+fn write_of(p: Packet) -> Write
+    ensures { λ r. ⌜ r ≡ writeOf p ⌝ }
+{
+    Write {
+        operation: p.operation,
+        object: p.object,
+        value: p.value,
+        stamp: p.stamp,
+    }
+}
+
+// The message that a packet holds.
+pub fn message_of(p: Packet) -> Message
+    ensures { λ r. ⌜ r ≡ messageOf p ⌝ }
+{
+    if p.kind == 1 {
+        return Message::UnstampedWrite(p.operation, p.object, p.value);
+    }
+    if p.kind == 2 {
+        return Message::SwitchRead(p.operation, p.object);
+    }
+    if p.kind == 3 {
+        return Message::StampedWrite(p.replica, write_of(p));
+    }
+    if p.kind == 4 {
+        return Message::DirectRead(p.replica, p.number, p.stamp, p.operation, p.object);
+    }
+    if p.kind == 5 {
+        return Message::NormalRead(p.replica, p.operation, p.object);
+    }
+    if p.kind == 6 {
+        return Message::Completion(p.object, p.stamp);
+    }
+    if p.kind == 7 {
+        return Message::Reply(p.operation, p.value);
+    }
+    Message::Unknown
+}
+
+pub fn is_unstamped(p: Packet) -> bool
+    ensures { λ r. ⌜ r ≡ isUnstamped p ⌝ }
+{
+    p.kind == 1
+}

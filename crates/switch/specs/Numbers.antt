@@ -1,0 +1,52 @@
+-- The numbers of the switch, which the caller lends: where each lies. Document 01, 'Parts and how big they are': 'number (1 at the start), counter,
+-- last-committed stamp, a direct-reads sign (off at the start), and the marks'.
+use mathlib.Core.Bool.{Bool, not}
+use mathlib.Core.List.{List}
+use Prim.Native.Nat.{ℕ, _+_, _%_}
+use lib.Dec.{eqb}
+use lib.ListN.{getD}
+use Rattle.limits.specs as limits
+
+abbrev pub numberCell : ℕ
+numberCell = 0
+
+abbrev pub counterCell : ℕ
+counterCell = 1
+
+abbrev pub committedCell : ℕ
+committedCell = 2
+
+abbrev pub directCell : ℕ
+directCell = 3
+
+-- 'Three stages of 16 slots': slots 0 to 15 are the first stage's. First the object of each slot, then the stamp of each
+abbrev pub slots : ℕ
+slots = 48
+
+abbrev pub objectCell : ℕ → ℕ
+objectCell i = 4 + i
+
+abbrev pub slotStampCell : ℕ → ℕ
+slotStampCell i = 52 + i
+
+abbrev pub switchCells : ℕ
+switchCells = 100
+
+-- what is read there; a number and a counter have 16 bits
+unfoldable pub numberIn : List ℕ → ℕ
+numberIn w = getD w numberCell 0 % limits.switchNumbers
+
+unfoldable pub counterIn : List ℕ → ℕ
+counterIn w = getD w counterCell 0 % limits.counters
+
+unfoldable pub committedIn : List ℕ → ℕ
+committedIn w = getD w committedCell 0
+
+unfoldable pub directIn : List ℕ → Bool
+directIn w = not (eqb (getD w directCell 0) 0)
+
+unfoldable pub slotObject : List ℕ → ℕ → ℕ
+slotObject w i = getD w (objectCell i) 0
+
+unfoldable pub slotStamp : List ℕ → ℕ → ℕ
+slotStamp w i = getD w (slotStampCell i) 0

@@ -1,0 +1,226 @@
+// The switch's numbers where the caller lends them.
+ghost use mathlib.Core.Path.{_≡_};
+ghost use Prim.Native.Nat.{_+_, _<_};
+ghost use Rattle.switch.specs.Numbers.{numberIn, counterIn, committedIn, directIn, slotObject, slotStamp};
+ghost use lib.ListN.{set};
+ghost use Rattle.switch.specs.DirtySet.{holdsAt, holdsAbove, freeSlot, slotFor, lookedUp, marked, stampFor, clearedAt, completed, countedMarks};
+ghost use Rattle.switch.specs.Values.{switchOf};
+use crate::CELLS;
+use crate::COMMITTED;
+use crate::COUNTER;
+use crate::DIRECT;
+use crate::NUMBER;
+use crate::OBJECTS;
+use crate::SLOTS;
+use crate::STAMPS;
+use crate::Switch;
+use crate::slots::first_slot;
+use crate::slots::holds;
+use crate::slots::holds_above;
+use crate::slots::is_completed;
+use crate::slots::is_free;
+use crate::slots::second_slot;
+use crate::slots::third_slot;
+use limits::Counter;
+use limits::LAST_COUNTER;
+use limits::Number;
+use limits::Object;
+use limits::Stamp;
+
+// ---- single numbers
+
+pub fn number(cells: &[u32; CELLS]) -> Number
+    ensures { λ r. ⌜ r ≡ numberIn (now (cells .entry)) ⌝ }
+{
+    (cells[NUMBER] % 65536) as Number
+}
+
+fn counter(cells: &[u32; CELLS]) -> Counter
+    ensures { λ r. ⌜ r ≡ counterIn (now (cells .entry)) ⌝ }
+{
+    (cells[COUNTER] % 65536) as Counter
+}
+
+pub fn committed(cells: &[u32; CELLS]) -> Stamp
+    ensures { λ r. ⌜ r ≡ committedIn (now (cells .entry)) ⌝ }
+{
+    cells[COMMITTED]
+}
+
+pub fn is_direct(cells: &[u32; CELLS]) -> bool
+    ensures { λ r. ⌜ r ≡ directIn (now (cells .entry)) ⌝ }
+{
+    cells[DIRECT] != 0
+}
+
+fn object_at(cells: &[u32; CELLS], i: usize) -> u32
+    requires { ⌜ i < 48 ⌝ }
+    ensures { λ r. ⌜ r ≡ slotObject (now (cells .entry)) i ⌝ }
+{
+    cells[OBJECTS + i]
+}
+
+fn stamp_at(cells: &[u32; CELLS], i: usize) -> Stamp
+    requires { ⌜ i < 48 ⌝ }
+    ensures { λ r. ⌜ r ≡ slotStamp (now (cells .entry)) i ⌝ }
+{
+    cells[STAMPS + i]
+}
+
+// ---- look-up
+
+fn holds_at(cells: &[u32; CELLS], o: Object, i: usize) -> bool
+    requires { ⌜ i < 48 ⌝ }
+    ensures { λ r. ⌜ r ≡ holdsAt (now (cells .entry)) o i ⌝ }
+{
+    holds(object_at(cells, i), stamp_at(cells, i), o)
+}
+
+fn counts_at(cells: &[u32; CELLS], o: Object, c: Stamp, i: usize) -> bool
+    requires { ⌜ i < 48 ⌝ }
+    ensures { λ r. ⌜ r ≡ holdsAbove (slotObject (now (cells .entry)) i) (slotStamp (now (cells .entry)) i) o c ⌝ }
+{
+    holds_above(object_at(cells, i), stamp_at(cells, i), o, c)
+}
+
+// The stamp of the object's counting mark, (0,0) where it has none.
+pub fn lookup(cells: &[u32; CELLS], o: Object) -> Stamp
+    ensures { λ r. ⌜ r ≡ lookedUp (now (cells .entry)) o ⌝ }
+{
+    let p1 = first_slot(o);
+    let p2 = second_slot(o);
+    let p3 = third_slot(o);
+    let c = committed(cells);
+    if counts_at(cells, o, c, p1) {
+        return stamp_at(cells, p1);
+    }
+    if counts_at(cells, o, c, p2) {
+        return stamp_at(cells, p2);
+    }
+    if counts_at(cells, o, c, p3) {
+        return stamp_at(cells, p3);
+    }
+    0
+}
+
+// How many marks count.
+pub fn count(cells: &[u32; CELLS]) -> u32
+    ensures { λ r. ⌜ r ≡ countedMarks (now (cells .entry)) ⌝ }
+{
+    let c = committed(cells);
+    let mut n: u32 = 0;
+    let mut i: usize = 0;
+    while i < SLOTS {
+        if stamp::above(stamp_at(cells, i), c) {
+            n += 1;
+        }
+        i += 1;
+    }
+    n
+}
+
+// ---- a mark
+
+fn free_slot(cells: &[u32; CELLS], o: Object) -> usize
+    ensures { λ r. ⌜ r ≡ freeSlot (now (cells .entry)) o ⌝ }
+{
+    let p1 = first_slot(o);
+    let p2 = second_slot(o);
+    let p3 = third_slot(o);
+    let c = committed(cells);
+    if is_free(stamp_at(cells, p1), c) {
+        return p1;
+    }
+    if is_free(stamp_at(cells, p2), c) {
+        return p2;
+    }
+    if is_free(stamp_at(cells, p3), c) {
+        return p3;
+    }
+    SLOTS
+}
+
+// The slot that a mark of the object goes to, or 48 where there is none.
+fn slot_for(cells: &[u32; CELLS], o: Object) -> usize
+    ensures { λ r. ⌜ r ≡ slotFor (now (cells .entry)) o ⌝ }
+{
+    let p1 = first_slot(o);
+    let p2 = second_slot(o);
+    let p3 = third_slot(o);
+    if holds_at(cells, o, p1) {
+        return p1;
+    }
+    if holds_at(cells, o, p2) {
+        return p2;
+    }
+    if holds_at(cells, o, p3) {
+        return p3;
+    }
+    free_slot(cells, o)
+}
+
+// Slot i takes the object and its write's stamp, and the counter moves on.
+fn put_mark(cells: &mut [u32; CELLS], o: Object, i: usize, counter: Counter, stamp: Stamp)
+    requires { ⌜ (i < 48) × (counter < 65535) ⌝ }
+    ensures { λ _. ⌜ now (cells .exit) ≡ set (set (set (now (cells .entry)) 1 (counter + 1)) (4 + i) o) (52 + i) stamp ⌝ }
+{
+    cells[COUNTER] = counter as u32 + 1;
+    cells[OBJECTS + i] = o;
+    cells[STAMPS + i] = stamp;
+}
+
+// A write of the object gets the next stamp, and the object a mark with it; (0,0) where it is dropped.
+pub fn mark(cells: &mut [u32; CELLS], o: Object) -> Stamp
+    ensures { λ r. ⌜ (r ≡ stampFor (now (cells .entry)) o) × (now (cells .exit) ≡ marked (now (cells .entry)) o) ⌝ }
+{
+    let counter = counter(cells);
+    if counter == LAST_COUNTER {
+        return 0;
+    }
+    let at = slot_for(cells, o);
+    if SLOTS <= at {
+        return 0;
+    }
+    let stamp = stamp::make(number(cells), counter + 1);
+    put_mark(&mut *cells, o, at, counter, stamp);
+    stamp
+}
+
+// ---- a completion
+
+// Slot i without a mark of the object that the completion t covers.
+fn clear(cells: &mut [u32; CELLS], o: Object, t: Stamp, i: usize)
+    requires { ⌜ i < 48 ⌝ }
+    ensures { λ _. ⌜ now (cells .exit) ≡ clearedAt (now (cells .entry)) o t i ⌝ }
+{
+    if is_completed(object_at(cells, i), stamp_at(cells, i), o, t) {
+        cells[STAMPS + i] = 0;
+    }
+}
+
+pub fn complete(cells: &mut [u32; CELLS], o: Object, t: Stamp)
+    ensures { λ _. ⌜ now (cells .exit) ≡ completed (now (cells .entry)) o t ⌝ }
+{
+    let c = stamp::larger(committed(cells), t);
+    clear(&mut *cells, o, t, first_slot(o));
+    clear(&mut *cells, o, t, second_slot(o));
+    clear(&mut *cells, o, t, third_slot(o));
+    cells[COMMITTED] = c;
+    cells[DIRECT] = 1;
+}
+
+// ---- the whole switch
+
+pub fn load(cells: &[u32; CELLS]) -> Switch
+    ensures { λ r. ⌜ r ≡ switchOf (now (cells .entry)) ⌝ }
+{
+    let all = *cells;
+    Switch { cells: all }
+}
+
+pub fn store(cells: &mut [u32; CELLS], s: Switch)
+    ensures { λ _. ⌜ now (cells .exit) ≡ s .cells ⌝ }
+{
+    let all = s.cells;
+    *cells = all;
+}

@@ -1,0 +1,20 @@
+use borrow.Author.Tests.{lt-ltb, le-ltb, not-true, not-false}
+use borrow.Author.Needs.{needs}
+use Rattle.turns.specs.Contracts.{goesOn}
+use Rattle.turns.proofs.goes_on.Statement.{statement}
+use Rattle.turns.proofs.goes_on.Tie as tie
+
+returns : tie.Need-returns
+unfolding goesOn
+returns c = simp (c .if1 .taken)
+
+returns-2 : tie.Need-returns-2
+unfolding goesOn
+returns-2 c = simp (c .before .if1 .left, lt-ltb _ _ (c .if2 .taken))
+
+returns-3 : tie.Need-returns-3
+unfolding goesOn
+returns-3 c = simp (c .before .if1 .left, le-ltb _ _ (c .if2 .left))
+
+pub goes-on-spec : {M : Type 1} → statement M
+goes-on-spec = tie.close (tie.spec returns returns-2 returns-3)

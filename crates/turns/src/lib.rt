@@ -1,0 +1,336 @@
+// The run of one input, record by record: each record's step is done, and its line goes into a lent buffer.
+ghost use mathlib.Core.Path.{_≡_};
+ghost use Prim.Native.Nat.{ℕ, _-_};
+ghost use mathlib.Core.List.{List};
+ghost use lib.ListN.{length};
+ghost use Rattle.waiting.specs.declared.Packet.{Packet};
+ghost use Rattle.waiting.specs.Waiting.{noneWait};
+ghost use Rattle.protocol.specs.Answers.{refusalNumber};
+ghost use Rattle.protocol.specs.Steps.{machine};
+ghost use Rattle.protocol.specs.declared.Refusal.the-variants.{Format, InputTooLong};
+ghost use Rattle.lines.specs.Lines.{noLine};
+ghost use Rattle.lines.specs.Text.{putIn};
+ghost use Rattle.turns.specs.Turns.{nextNumber, readNext, nextPrinted, replicasOf, stopped, startedWith, firstPrinted};
+ghost use Rattle.turns.specs.Contracts.{placeAfter, goesOn, turned, standsAs, Stands, oneTurn, Concludes, turnOf, goingOn, overRun, concluded};
+use limits::INPUT;
+use protocol::Refusal;
+use protocol::Step;
+use protocol::Stepped;
+use records::Next;
+use waiting::Packet;
+
+const LAST_NUMBER: u32 = 4294967295;
+
+pub const LAST_PLACE: usize = 18446744073709551615;
+
+// How a run stands between two records; the machine is lent, and `count` of its packets wait. `at` is where the next record begins, `number` its number, and
+// `left` bounds the records that follow.
+pub struct Run {
+    pub count: usize,
+    pub at: usize,
+    pub number: u32,
+    pub over: bool,
+    pub left: usize,
+}
+
+// How a run stands after a record, and the place after its line.
+pub struct Ran {
+    pub run: Run,
+    pub used: usize,
+}
+
+// What is read, and the step that the machine is handed.
+struct Turn {
+    found: Next,
+    step: Step,
+}
+
+// ---- numbers
+
+fn one_fewer(turns: usize) -> usize
+    ensures { λ r. ⌜ r ≡ turns - 1 ⌝ }
+{
+    if turns == 0 {
+        return 0;
+    }
+    turns - 1
+}
+
+fn next_number(k: u32) -> u32
+    ensures { λ r. ⌜ r ≡ nextNumber k ⌝ }
+{
+    if k == LAST_NUMBER {
+        return k;
+    }
+    k + 1
+}
+
+fn place_after(used: usize, n: usize) -> usize
+    ensures { λ r. ⌜ r ≡ placeAfter used n ⌝ }
+{
+    if LAST_PLACE - used < n {
+        return LAST_PLACE;
+    }
+    used + n
+}
+
+// ---- one record
+
+// What is read next: nothing once the run is over.
+fn read_next(input: &[u8], over: bool, at: usize) -> Next
+    ensures { λ r. ⌜ r ≡ readNext (now (input .entry)) over at ⌝ }
+{
+    if over {
+        return Next::End;
+    }
+    records::read_at(input, at)
+}
+
+// Where no step is read, the machine is handed one that it refuses, so that it changes nothing.
+fn turn_of(found: Next) -> Turn
+    ensures { λ r. ⌜ r ≡ turnOf found ⌝ }
+{
+    match found {
+        Next::Record(x, at) => Turn { found, step: x },
+        Next::End => Turn {
+            found,
+            step: Step::Start(0),
+        },
+        Next::Malformed => Turn {
+            found,
+            step: Step::Start(0),
+        },
+    }
+}
+
+fn look(input: &[u8], over: bool, at: usize) -> Turn
+    ensures { λ r. ⌜ r ≡ turnOf (readNext (now (input .entry)) over at) ⌝ }
+{
+    turn_of(read_next(input, over, at))
+}
+
+// The run after a step, with its line in the buffer; the next record is at `at`.
+fn go_on(run: Run, at: usize, done: Stepped, out: &mut [u8], used: usize) -> Ran
+    ensures { λ r. ⌜ Concludes r (now (out .exit)) (now (out .entry)) used (goingOn run at done) ⌝ }
+{
+    let count = done.count;
+    let answer = done.answer;
+    let waiting = waiting::held(count) as u32;
+    let n = lines::put_answer(&mut *out, used, run.number, answer, waiting, done.marks);
+    let run = Run {
+        count,
+        at,
+        number: next_number(run.number),
+        over: false,
+        left: one_fewer(run.left),
+    };
+    Ran {
+        run,
+        used: place_after(used, n),
+    }
+}
+
+// The run is over.
+fn end(run: Run) -> Run
+    ensures { λ r. ⌜ r ≡ overRun run ⌝ }
+{
+    Run {
+        count: run.count,
+        at: run.at,
+        number: run.number,
+        over: true,
+        left: one_fewer(run.left),
+    }
+}
+
+// The line of a record that is refused by 1, in the buffer. The place after it.
+fn put_malformed(out: &mut [u8], used: usize, number: u32) -> usize
+    ensures { λ r. ⌜ (r ≡ placeAfter used (length (noLine number (refusalNumber Format))))
+        × (now (out .exit) ≡ putIn (now (out .entry)) used (noLine number (refusalNumber Format))) ⌝ }
+{
+    let n = lines::put_refusal(
+        &mut *out,
+        used,
+        number,
+        lines::refusal_number(Refusal::Format),
+    );
+    place_after(used, n)
+}
+
+// The run after what was read, whose step gave `done`.
+fn conclude(run: Run, found: Next, done: Stepped, out: &mut [u8], used: usize) -> Ran
+    ensures { λ r. ⌜ Concludes r (now (out .exit)) (now (out .entry)) used (concluded run found done) ⌝ }
+{
+    match found {
+        Next::Record(x, at) => go_on(run, at, done, &mut *out, used),
+        Next::End => Ran {
+            run: end(run),
+            used,
+        },
+        Next::Malformed => {
+            let used = put_malformed(&mut *out, used, run.number);
+            Ran {
+                run: end(run),
+                used,
+            }
+        }
+    }
+}
+
+// The next record of a run: its step is done, and its line goes into the buffer at the place `used`.
+fn next(
+    input: &[u8],
+    run: Run,
+    switch: &mut [u32; switch::CELLS],
+    store: &mut [u32; replicas::CELLS],
+    opens: &mut [u32; operations::CELLS],
+    packets: &mut [Packet],
+    out: &mut [u8],
+    used: usize,
+) -> Ran
+    ensures { λ r. ⌜ Stands r (now (switch .exit)) (now (store .exit)) (now (opens .exit)) (now (packets .exit)) (now (out .exit))
+        (oneTurn (run .left - 1) (now (out .entry)) used (nextPrinted (now (input .entry))
+        (standsAs run (now (switch .entry)) (now (store .entry)) (now (opens .entry)) (now (packets .entry))))) ⌝ }
+{
+    let turn = look(input, run.over, run.at);
+    let done = machine::step(switch, store, opens, packets, run.count, turn.step);
+    conclude(run, turn.found, done, out, used)
+}
+
+// ---- the first record
+
+fn replicas_of(x: Step) -> u8
+    ensures { λ r. ⌜ r ≡ replicasOf x ⌝ }
+{
+    match x {
+        Step::Start(n) => n,
+        Step::BeginRead(x) => 0,
+        Step::BeginWrite(x, v) => 0,
+        Step::Deliver(at, choice) => 0,
+        Step::Lose(at) => 0,
+        Step::Repeat(at) => 0,
+        Step::Advance(r) => 0,
+        Step::Replace(number) => 0,
+        Step::Tell(r) => 0,
+        Step::Remove(r) => 0,
+        Step::GiveUp(o) => 0,
+    }
+}
+
+// Nothing is run: the line of a refusal goes to the buffer's start.
+fn stop(out: &mut [u8], number: u32, why: Refusal, turns: usize) -> Ran
+    ensures { λ r. ⌜ ((switch store opens : List ℕ) (row : List Packet) → Stands r switch store opens row (now (out .exit))
+        (oneTurn turns (now (out .entry)) 0 (stopped (machine switch store opens (noneWait row)) (noLine number (refusalNumber why))))) ⌝ }
+{
+    let n = lines::put_refusal(&mut *out, 0, number, lines::refusal_number(why));
+    let run = Run {
+        count: 0,
+        at: 0,
+        number: 1,
+        over: true,
+        left: turns,
+    };
+    Ran {
+        run,
+        used: place_after(0, n),
+    }
+}
+
+// The run after a start with n replicas; the next record is at `at`, and at most so many turns follow.
+fn start_with(
+    n: u8,
+    at: usize,
+    turns: usize,
+    switch: &mut [u32; switch::CELLS],
+    store: &mut [u32; replicas::CELLS],
+    opens: &mut [u32; operations::CELLS],
+    out: &mut [u8],
+) -> Ran
+    ensures { λ r. ⌜ ((row : List Packet) → Stands r (now (switch .exit)) (now (store .exit)) (now (opens .exit)) row (now (out .exit))
+        (oneTurn turns (now (out .entry)) 0 (startedWith (machine (now (switch .entry)) (now (store .entry)) (now (opens .entry)) (noneWait row)) n at))) ⌝ }
+{
+    let answer = machine::start(n, &mut *switch, &mut *store, &mut *opens);
+    let over = machine::start_refused(n);
+    let bytes = lines::put_answer(&mut *out, 0, 1, answer, 0, 0);
+    let run = Run {
+        count: 0,
+        at,
+        number: 2,
+        over,
+        left: turns,
+    };
+    Ran {
+        run,
+        used: place_after(0, bytes),
+    }
+}
+
+// The first record of an input: a start, or what is refused in its place. Its line goes to the buffer's start.
+pub fn first(
+    input: &[u8],
+    switch: &mut [u32; switch::CELLS],
+    store: &mut [u32; replicas::CELLS],
+    opens: &mut [u32; operations::CELLS],
+    out: &mut [u8],
+) -> Ran
+    ensures { λ r. ⌜ ((row : List Packet) → Stands r (now (switch .exit)) (now (store .exit)) (now (opens .exit)) row (now (out .exit))
+        (oneTurn (length (now (input .entry))) (now (out .entry)) 0 (firstPrinted (machine (now (switch .entry)) (now (store .entry)) (now (opens .entry)) (noneWait row)) (now (input .entry))))) ⌝ }
+{
+    let turns = input.len();
+    if INPUT < turns {
+        return stop(&mut *out, 0, Refusal::InputTooLong, turns);
+    }
+    match records::read_at(input, 0) {
+        Next::Record(x, at) => start_with(
+            replicas_of(x),
+            at,
+            turns,
+            &mut *switch,
+            &mut *store,
+            &mut *opens,
+            &mut *out,
+        ),
+        Next::End => stop(&mut *out, 1, Refusal::Format, turns),
+        Next::Malformed => stop(&mut *out, 1, Refusal::Format, turns),
+    }
+}
+
+// ---- the records that follow
+
+// Whether another record is read.
+pub fn goes_on(over: bool, left: usize, used: usize, stop: usize) -> bool
+    ensures { λ r. ⌜ r ≡ goesOn over left used stop ⌝ }
+{
+    if over {
+        return false;
+    }
+    if 0 < left {
+        return used <= stop;
+    }
+    false
+}
+
+// The records that follow, until the run is over or the place is past `stop`: their lines go into the buffer, one after the other, from the place `used` on.
+pub fn turns(
+    input: &[u8],
+    run: Run,
+    switch: &mut [u32; switch::CELLS],
+    store: &mut [u32; replicas::CELLS],
+    opens: &mut [u32; operations::CELLS],
+    packets: &mut [Packet],
+    out: &mut [u8],
+    used: usize,
+    stop: usize,
+) -> Ran
+    ensures { λ r. ⌜ Stands r (now (switch .exit)) (now (store .exit)) (now (opens .exit)) (now (packets .exit)) (now (out .exit))
+        (turned (run .left) stop (now (input .entry)) (standsAs run (now (switch .entry)) (now (store .entry)) (now (opens .entry)) (now (packets .entry))) (now (out .entry)) used) ⌝ }
+{
+    let mut run = run;
+    let mut used = used;
+    while goes_on(run.over, run.left, used, stop) {
+        let ran = next(input, run, switch, store, opens, packets, out, used);
+        run = ran.run;
+        used = ran.used;
+    }
+    Ran { run, used }
+}

@@ -1,0 +1,165 @@
+-- No operation of a session has number 0, so that 0 can stand for none: what every start gives, and every step keeps.
+use mathlib.Core.Path.{_≡_, refl, sym, ap, subst, _∙_}
+use mathlib.Core.Logic.{inl, inr}
+use mathlib.Core.Bool.{Bool, true, false, cond}
+use mathlib.Core.List.{List}
+use Prim.Native.Nat.{ℕ, _+_, _≤_}
+use native.Mathlib.Omega.{arith}
+use lib.Dec.{eqb, leb, ltb}
+use lib.ListN.{length}
+use Rattle.limits.specs as limits
+use Rattle.operations.specs.{lastGiven, noneOpen, isOpen, roomToOpen, opening, closing}
+use Rattle.operations.proofs.Laws.{SizedOpens, sized-none, sized-opening, sized-closing, none-open, OpenOnce, once-none, once-opening, once-closing, open-before, open-after-closing, last-opening, last-closing}
+use Rattle.replicas.specs.Chain.{isLive, tailOf, allPermit}
+use Rattle.replicas.specs.Replicas.{accepts, answersDirect}
+use Rattle.switch.specs.Numbers.{numberIn, directIn}
+use Rattle.switch.specs.DirtySet.{lookedUp, stampFor}
+use Rattle.waiting.specs.declared.Packet.{Packet}
+use Rattle.waiting.specs.Waiting.{lookAt}
+use Rattle.protocol.specs.declared.Answer.{Answer}
+use Rattle.protocol.specs.declared.Answer.the-variants.{Done, Finished, Refused}
+use Rattle.protocol.specs.declared.Message.{Message}
+use Rattle.protocol.specs.declared.Message.the-variants.{UnstampedWrite, SwitchRead, StampedWrite, DirectRead, NormalRead, Completion, Reply, Unknown}
+use Rattle.protocol.specs.declared.Decision.{Decision}
+use Rattle.protocol.specs.declared.Step.{Step}
+use Rattle.protocol.specs.declared.Step.the-variants.{Start, BeginRead, BeginWrite, Deliver, Lose, Repeat, Advance, Replace, Tell, Remove, GiveUp}
+use Rattle.protocol.specs.Messages.{messageOf}
+use Rattle.protocol.specs.Decisions.{Given, Outcome, Switched, Stored, Opened, refusing, dropping, passing, overfull}
+use Rattle.protocol.specs.Delivery.{stamping, unstampedWrite, switchRead, stampedWrite, directRead, normalRead, completion, reply, deliveredMessage}
+use Rattle.protocol.specs.Steps.{Machine, givenBy, positionOf, isMalformed, beginOperation, delivered, givingUp, decided, decidedIn, answerTo, after, startRefused, startOpens}
+use Rattle.protocol.proofs.Refusals.{finished-by-deliver}
+
+-- the open numbers are told apart, and lie between 1 and the last that was given
+pub record Counted (l : List ℕ) : Type 0 where
+  pub sized : SizedOpens l
+  pub once : OpenOnce l
+  pub from-1 : (o : ℕ) → isOpen l o ≡ true → (1 ≤ o) × (o ≤ lastGiven l)
+
+counted-none : Counted noneOpen
+counted-none = record { sized = sized-none; once = once-none; from-1 = λ o e. absurd (none-open o e) }
+
+-- an accepted start gives it
+pub counted-start : (n : ℕ) (l : List ℕ) → startRefused n ≡ false → Counted (startOpens n l)
+unfolding startOpens
+counted-start n l e = rw e counted-none
+
+-- what holds either way of a test holds of what it chooses
+by-test : {A : Type 0} (P : A → Type 0) (b : Bool) {y z : A} → (b ≡ true → P y) → (b ≡ false → P z) → P (cond b y z)
+by-test P true p q = p refl
+by-test P false p q = q refl
+
+both : {A : Type 0} (P : A → Type 0) (b : Bool) {y z : A} → P y → P z → P (cond b y z)
+both P b p q = by-test P b (λ e. p) (λ e. q)
+
+-- ---- the open operations after a step
+module _ {l : List ℕ} (c : Counted l) where
+  abbrev next : ℕ
+  next = lastGiven l + 1
+
+  next-shut : (t : Bool) → isOpen l next ≡ t → isOpen l next ≡ false
+  next-shut true e = absurd (omega (arith, c .from-1 next e))
+  next-shut false e = e
+
+  counted-opening : roomToOpen l ≡ true → Counted (opening l next)
+  counted-opening room = record {
+    sized = sized-opening l next (c .sized);
+    once = once-opening l next (c .sized) room (next-shut (isOpen l next) refl) (c .once);
+    from-1 = λ o e.
+        elim (open-before l next (c .sized) room o e) [
+          | inl q ↦ omega (arith, last-opening l next (c .sized) room)
+          | inr q ↦ omega (arith, c .from-1 o q, last-opening l next (c .sized) room)
+        ];
+  }
+
+  counted-closing : (o : ℕ) → isOpen l o ≡ true → Counted (closing l o)
+  counted-closing o still = record {
+    sized = sized-closing l o (c .sized);
+    once = once-closing l o (c .sized) still (c .once);
+    from-1 = λ p e.
+        let was = c .from-1 p (open-after-closing l o (c .sized) still (c .once) p e .0) in omega (arith, was, last-closing l o (c .sized) still);
+  }
+
+  counted-begin : (held : ℕ) (isWrite : Bool) (x v : ℕ) → Counted (beginOperation l held isWrite x v .opens)
+  unfolding beginOperation
+  counted-begin held isWrite x v =
+      let P : Opened → Type 0 = λ u. Counted (u .opens) in
+      both P (leb limits.objects x) c
+      (both P (leb limits.lastOperation (lastGiven l)) c
+      (by-test P (roomToOpen l) (λ room. both P (overfull held 0 1) c (counted-opening room)) (λ full. c)))
+
+module _ (g : Given) (c : Counted (g .opens)) where
+  counted-message : (at choice : ℕ) (q : Message) → Counted (deliveredMessage g at choice q .opens)
+  unfolding deliveredMessage reply
+  counted-message at choice (UnstampedWrite o x v) = c
+  counted-message at choice (SwitchRead o x) = c
+  counted-message at choice (StampedWrite r w) = c
+  counted-message at choice (DirectRead r number t o x) = c
+  counted-message at choice (NormalRead r o x) = c
+  counted-message at choice (Completion x t) = c
+  counted-message at choice (Reply o v) = by-test (λ (u : Opened). Counted (u .opens)) (isOpen (g .opens) o) (counted-closing c o) (λ shut. c)
+  counted-message at choice Unknown = c
+
+  counted-decided : (p : Packet) (x : Step) → Counted (decided g p x .opens)
+  unfolding decided delivered givingUp
+  counted-decided p (Start n) = c
+  counted-decided p (BeginRead x) = counted-begin c (g .held) false x 0
+  counted-decided p (BeginWrite x v) = counted-begin c (g .held) true x v
+  counted-decided p (Deliver at choice) =
+      let P : Outcome → Type 0 = λ u. Counted (u .opens) in
+      both P (leb (g .held) at) c (both P (leb limits.objects (p .object)) c (counted-message at choice (messageOf p)))
+  counted-decided p (Lose at) = c
+  counted-decided p (Repeat at) = c
+  counted-decided p (Advance r) = c
+  counted-decided p (Replace number) = c
+  counted-decided p (Tell r) = c
+  counted-decided p (Remove r) = c
+  counted-decided p (GiveUp o) = by-test (λ (u : Opened). Counted (u .opens)) (isOpen (g .opens) o) (counted-closing c o) (λ shut. c)
+
+-- every step keeps it
+pub counted-step : (m : Machine) (x : Step) → Counted (m .opens) → Counted (after m x .opens)
+unfolding after decidedIn
+counted-step m x c =
+    let P : Outcome → Type 0 = λ u. Counted (u .opens) in
+    both P (isMalformed x) c
+    (both P (ltb (length (m .waiting .packets)) limits.waiting) c (counted-decided (givenBy m) c (lookAt (m .waiting .packets) (positionOf x)) x))
+
+-- ---- an operation that finishes is open
+
+-- the answer finishes no operation that is not open
+abbrev FromOpen : List ℕ → Answer → Type 0
+FromOpen l Done = Unit {0}
+FromOpen l (Finished o v) = isOpen l o ≡ true
+FromOpen l (Refused r) = Unit {0}
+
+abbrev Decides : List ℕ → Decision → Type 0
+Decides l d = FromOpen l (d .answer)
+
+open-message : (g : Given) (at choice : ℕ) (q : Message) → Decides (g .opens) (deliveredMessage g at choice q .decision)
+unfolding deliveredMessage stamping unstampedWrite switchRead stampedWrite directRead normalRead completion reply refusing dropping passing
+open-message g at choice (UnstampedWrite o x v) =
+    both (λ (u : Switched). Decides (g .opens) (u .decision)) (allPermit (g .store) (numberIn (g .switch))) (both (Decides (g .opens)) (eqb (stampFor (g .switch) x) 0) tt tt) tt
+open-message g at choice (SwitchRead o x) = both (Decides (g .opens)) (directIn (g .switch)) (both (Decides (g .opens)) (eqb (lookedUp (g .switch) x) 0) tt tt) tt
+open-message g at choice (StampedWrite r w) =
+    let P : Stored → Type 0 = λ u. Decides (g .opens) (u .decision) in
+    both P (accepts (g .store) r (w .stamp)) (both P (eqb r (tailOf (g .store))) (both P (overfull (g .held) 1 2) tt tt) tt) tt
+open-message g at choice (DirectRead r number t o x) =
+    both (Decides (g .opens)) (isLive (g .store) r) (both (Decides (g .opens)) (answersDirect (g .store) r x number t) tt tt) tt
+open-message g at choice (NormalRead r o x) = both (Decides (g .opens)) (isLive (g .store) r) tt tt
+open-message g at choice (Completion x t) = tt
+open-message g at choice (Reply o v) = by-test (λ (u : Opened). Decides (g .opens) (u .decision)) (isOpen (g .opens) o) (λ still. still) (λ shut. tt)
+open-message g at choice Unknown = tt
+
+open-delivery : (m : Machine) (at choice : ℕ) → FromOpen (m .opens) (answerTo m (Deliver at choice))
+unfolding answerTo decidedIn isMalformed decided delivered refusing dropping
+open-delivery m at choice =
+    let P : Outcome → Type 0 = λ u. Decides (m .opens) (u .decision) in
+    let p = lookAt (m .waiting .packets) (positionOf (Deliver at choice)) in
+    both P (ltb (length (m .waiting .packets)) limits.waiting) tt
+    (both P (leb (givenBy m .held) at) tt (both P (leb limits.objects (p .object)) tt (open-message (givenBy m) at choice (messageOf p))))
+
+-- so an operation that finishes has a number from 1 on
+pub finished-from-1 : (m : Machine) (x : Step) → Counted (m .opens) → (o v : ℕ) → answerTo m x ≡ Finished o v → 1 ≤ o
+finished-from-1 m x c o v e =
+    let d = finished-by-deliver m x o v e in
+    let f = ap (answerTo m) (sym (d .2)) ∙ e in
+    c .from-1 o (subst (FromOpen (m .opens)) f (open-delivery m (d .0) (d .1))) .0

@@ -1,0 +1,78 @@
+-- The exported line of a session is the line that the run program prints for the same record.
+use mathlib.Core.Path.{_≡_, refl, ap, _∙_}
+use mathlib.Core.Logic.{_⊎_, inl, inr}
+use mathlib.Core.Bool.{true, false}
+use mathlib.Core.List.{List}
+use Prim.Native.Nat.{ℕ, _≤_}
+use native.Mathlib.Omega.{arith}
+use lib.Dec.{eqb}
+use lib.ListN.{length}
+use borrow.Author.Tests.{eq-eqb, ne-eqb}
+use Rattle.switch.specs.DirtySet.{countedMarks}
+use Rattle.waiting.specs.Waiting.{heldIn, held}
+use Rattle.protocol.specs.declared.Answer.{Answer}
+use Rattle.protocol.specs.declared.Answer.the-variants.{Done, Finished, Refused}
+use Rattle.protocol.specs.declared.Refusal.{Refusal}
+use Rattle.protocol.specs.declared.Refusal.the-variants.{Format, Replicas, ObjectNumber, OperationsUsedUp, OpenFull, WaitingFull, NoPacket, UnstampedRepeat, NotLive, NoLinkedWrite, SwitchNumber, LastReplica, NotOpen, InputTooLong, BufferTooShort}
+use Rattle.protocol.specs.declared.Step.{Step}
+use Rattle.protocol.specs.Answers.{refusalNumber}
+use Rattle.protocol.specs.Steps.{Machine, answerTo, after, steppedBy, startRefused, startAnswer}
+use Rattle.protocol.proofs.Refusals.{start-cases}
+use Rattle.records.specs.declared.Found.{Found}
+use Rattle.records.specs.Records.{recordAt}
+use Rattle.lines.specs.Lines.{lineOf}
+use Rattle.woldladle.specs.declared.Session.{Session}
+use Rattle.woldladle.specs.Calls.{refusalIn, operationIn, valueIn, sessionStarted, wholeStep, askedBy, sessionAfter, answerFrom, lineFor}
+use Rattle.woldladle.proofs.Opens.{Counted, finished-from-1}
+
+-- the line of a session, as record k
+abbrev pub lineIn : ℕ → Session → List ℕ
+lineIn k u = lineFor k (u .refusal) (u .operation) (u .value) (u .waiting) (u .marks)
+
+-- no refusal has number 0
+numbered : (r : Refusal) → eqb (refusalNumber r) 0 ≡ false
+numbered Format = refl
+numbered Replicas = refl
+numbered ObjectNumber = refl
+numbered OperationsUsedUp = refl
+numbered OpenFull = refl
+numbered WaitingFull = refl
+numbered NoPacket = refl
+numbered UnstampedRepeat = refl
+numbered NotLive = refl
+numbered NoLinkedWrite = refl
+numbered SwitchNumber = refl
+numbered LastReplica = refl
+numbered NotOpen = refl
+numbered InputTooLong = refl
+numbered BufferTooShort = refl
+
+-- an answer's numbers give its line, where it finishes no operation 0
+line-of : (k : ℕ) (a : Answer) (waiting marks : ℕ) → ((o v : ℕ) → a ≡ Finished o v → 1 ≤ o) →
+    lineFor k (refusalIn a) (operationIn a) (valueIn a) waiting marks ≡ lineOf k a (heldIn waiting) marks
+unfolding lineFor answerFrom lineOf
+line-of k Done waiting marks h = refl
+line-of k (Finished o v) waiting marks h = rw (ne-eqb o 0 (λ e. omega (arith, h o v refl, e)))
+line-of k (Refused r) waiting marks h = rw (numbered r)
+
+-- the step of a record that fills the lent bytes
+asked-whole : (bytes : List ℕ) (x : Step) → recordAt bytes 0 ≡ Found.Record x (length bytes) → askedBy bytes ≡ x
+unfolding askedBy
+asked-whole bytes x e = ap (λ (f : Found). wholeStep f (length bytes)) e ∙ rw (eq-eqb (length bytes) (length bytes) refl)
+
+-- after a step: the line of crates/runs/specs/Runs.antt, `lineAfter`
+pub step-line : (k : ℕ) (m : Machine) (bytes : List ℕ) (x : Step) → Counted (m .opens) → recordAt bytes 0 ≡ Found.Record x (length bytes) →
+    lineIn k (sessionAfter (steppedBy m (askedBy bytes))) ≡ lineOf k (answerTo m x) (held (after m x .waiting)) (countedMarks (after m x .switch))
+unfolding sessionAfter
+step-line k m bytes x c e =
+    ap (λ (y : Step). lineIn k (sessionAfter (steppedBy m y))) (asked-whole bytes x e)
+    ∙ line-of k (answerTo m x) (after m x .waiting .count) (countedMarks (after m x .switch)) (finished-from-1 m x c)
+
+-- after a start: the line of its `startedWith`
+pub start-line : (k n : ℕ) (u : Session) → lineIn k (sessionStarted n u) ≡ lineOf k (startAnswer n) 0 0
+unfolding sessionStarted lineFor answerFrom lineOf heldIn
+start-line k n u = go (start-cases n)
+  where
+    go : ((startRefused n ≡ true) × (startAnswer n ≡ Refused Replicas)) ⊎ ((startRefused n ≡ false) × (startAnswer n ≡ Done)) → lineIn k (sessionStarted n u) ≡ lineOf k (startAnswer n) 0 0
+    go (inl e) = rw (e .1)
+    go (inr e) = rw (e .0, e .1)
