@@ -2,10 +2,10 @@
 //! an order on small runs.
 
 use crate::generate::{generate, length, Random, KINDS};
-use crate::model::Refusal;
+use crate::model::{Age, Refusal};
 use crate::order::{find_order, history};
 use crate::records::pieces;
-use crate::run::{output, walk};
+use crate::run::{output, walk, Outcome};
 use crate::words::describe;
 use std::fs::{self, File};
 use std::io;
@@ -30,6 +30,8 @@ pub struct Tally {
     pub records: usize,
     pub accepted: usize,
     pub finished: usize,
+    pub old: usize,
+    pub new: usize,
     pub refusals: [usize; 16],
     pub orders: usize,
     pub ordered_operations: usize,
@@ -40,16 +42,25 @@ impl Tally {
     pub fn count(&mut self, input: &[u8]) {
         self.files += 1;
         self.bytes += input.len();
-        walk(input, |_, outcome| {
-            self.records += 1;
-            match outcome {
-                Ok(accepted) => {
-                    self.accepted += 1;
-                    self.finished += usize::from(accepted.finished.is_some());
-                }
-                Err(refusal) => self.refusals[usize::from(refusal.number())] += 1,
+        walk(input, |_, outcome| self.count_line(outcome));
+    }
+
+    /// Counts one line.
+    fn count_line(&mut self, outcome: Outcome) {
+        self.records += 1;
+        let accepted = match outcome {
+            Ok(accepted) => accepted,
+            Err(refusal) => {
+                self.refusals[usize::from(refusal.number())] += 1;
+                return;
             }
-        });
+        };
+        self.accepted += 1;
+        if let Some(finished) = accepted.finished {
+            self.finished += 1;
+            self.old += usize::from(finished.age == Age::Old);
+            self.new += usize::from(finished.age == Age::New);
+        }
     }
 
     /// Adds another tally to this one.
@@ -59,6 +70,8 @@ impl Tally {
         self.records += other.records;
         self.accepted += other.accepted;
         self.finished += other.finished;
+        self.old += other.old;
+        self.new += other.new;
         self.orders += other.orders;
         self.ordered_operations += other.ordered_operations;
         for (ours, theirs) in self.refusals.iter_mut().zip(other.refusals) {
@@ -74,6 +87,8 @@ impl Tally {
         };
         row("ok", self.accepted);
         row("finished", self.finished);
+        row("old", self.old);
+        row("new", self.new);
         for (number, &times) in self.refusals.iter().enumerate().skip(1) {
             row(&format!("no {number}"), times);
         }

@@ -1,5 +1,6 @@
 //! The stored examples: small runs with names that say what they show. Each
-//! carries its last line as worked out by hand from document 01.
+//! carries its last line as worked out by hand from document 01 and the
+//! requests of document 02.
 //!
 //! They stand in tables of text, a paragraph each: `name: steps => last line`.
 //! A paragraph `let name: steps` gives some steps a name, for use as `{name}`
@@ -10,6 +11,7 @@ mod ends;
 mod marks;
 mod refusals;
 mod removals;
+mod rounds;
 
 use crate::run::output;
 use crate::words::file;
@@ -18,12 +20,13 @@ use std::io;
 use std::path::Path;
 
 /// The tables, in the order in which the examples are listed.
-const TABLES: [&str; 5] = [
+const TABLES: [&str; 6] = [
     ends::TABLE,
     refusals::TABLE,
     marks::TABLE,
     deliveries::TABLE,
     removals::TABLE,
+    rounds::TABLE,
 ];
 
 /// A record file with a name, and the last line that it must print.
@@ -141,6 +144,16 @@ mod tests {
         assert_eq!(seen, [1, 2, 3, 5, 6, 7, 8, 9, 10, 11, 12, 13, 14]);
     }
 
+    #[test]
+    fn reads_end_in_every_way() {
+        let all = all();
+        let lasts: Vec<&str> = all.iter().map(|e| e.last).collect();
+        for (word, least) in [("old", 10), ("new", 10), ("-", 50)] {
+            let ending = lasts.iter().filter(|l| l.split(' ').nth(6) == Some(word));
+            assert!(ending.count() >= least, "{word}");
+        }
+    }
+
     /// 69 bytes in 12 records: each cut inside record k prints the lines
     /// before it and `k no 1`; each cut after record k prints k lines.
     #[test]
@@ -148,9 +161,10 @@ mod tests {
         let listing = all().remove(0).input;
         assert_eq!(listing.len(), 4 + 9 + 7 * 6 + 4 + 5 + 5);
         let cuts = String::from_utf8(listing_cuts()).unwrap();
-        assert!(cuts
-            .starts_with("1 no 1\n1 no 1\n1 no 1\n1 no 1\n1 ok 0 0 - -\n1 ok 0 0 - -\n2 no 1\n"));
-        assert!(cuts.ends_with("11 ok 0 0 2 9\n12 no 13\n"));
+        assert!(cuts.starts_with(
+            "1 no 1\n1 no 1\n1 no 1\n1 no 1\n1 ok 0 0 - - -\n1 ok 0 0 - - -\n2 no 1\n"
+        ));
+        assert!(cuts.ends_with("11 ok 0 0 2 9 -\n12 no 13\n"));
         let ends = cuts.lines().filter(|l| l.ends_with("no 1")).count();
         assert_eq!(ends, listing.len() + 1 - 12);
     }

@@ -50,7 +50,7 @@ impl Random {
 }
 
 /// The kinds of files, each with what it is about.
-pub const KINDS: [(&str, &str); 16] = [
+pub const KINDS: [(&str, &str); 17] = [
     ("accepted", "mostly accepted steps of every tag"),
     ("dense", "reads and writes of few objects"),
     ("full-waiting", "nearly full waiting list"),
@@ -67,6 +67,7 @@ pub const KINDS: [(&str, &str); 16] = [
     ),
     ("repeats-losses", "many repeated and lost packets"),
     ("direct-reads", "direct reads with writes under way"),
+    ("pending-writes", "reads that go round pending writes"),
     ("lone", "a single replica"),
     ("small", "few operations on one or two objects"),
     ("limits", "fields at their limits"),
@@ -74,6 +75,9 @@ pub const KINDS: [(&str, &str); 16] = [
     ("damaged", "a run with a fault in its bytes"),
     ("noise", "random bytes"),
 ];
+
+/// So many of the kinds, the first ones, have a mood.
+const MOODS: usize = 14;
 
 /// A file of a kind, from a seed, of at most this length (exactly this length
 /// except for kind `damaged`); none if there is no such kind.
@@ -101,7 +105,7 @@ pub fn length(kind: &str, random: &mut Random) -> usize {
         ("small", _) => short,
         (_, 2..10) => INPUT_LONGEST,
         ("noise", _) => random.below(300),
-        ("removals", 10..80) => random.within(100, 3000),
+        ("removals" | "pending-writes", 10..80) => random.within(100, 3000),
         (_, 10..50) => random.within(30_000, INPUT_LONGEST),
         (_, 50..75) => random.within(600, 30_000),
         _ => short,
@@ -165,7 +169,7 @@ fn random_steps(random: &mut Random, length: usize) -> Vec<u8> {
 
 /// A run of some other kind with a fault put in its bytes.
 fn damaged(random: &mut Random, length: usize) -> Vec<u8> {
-    let sound = random.one_of(&KINDS[..13]).0;
+    let sound = random.one_of(&KINDS[..MOODS]).0;
     let mood = mood(sound, random, length);
     let seed = random.draw();
     let mut bytes = Author::new(mood, Random::new(seed)).write(length);
@@ -233,7 +237,7 @@ mod tests {
 
     #[test]
     fn the_length_is_met_and_most_files_end_whole() {
-        for (kind, _) in &KINDS[..13] {
+        for (kind, _) in &KINDS[..MOODS] {
             for length in (0..80).chain([65_535, 65_536, 65_537]) {
                 let file = generate(kind, length as u64, length).unwrap();
                 assert_eq!(file.len(), length, "{kind}");
@@ -251,7 +255,8 @@ mod tests {
 
     #[test]
     fn runs_that_look_at_the_state_are_mostly_accepted() {
-        for kind in ["accepted", "dense", "colliding", "replacements", "small"] {
+        let kinds = ["accepted", "dense", "colliding", "replacements", "small"];
+        for kind in kinds.into_iter().chain(["pending-writes"]) {
             let file = generate(kind, 3, 30_000).unwrap();
             let (mut all, mut accepted) = (0, 0);
             walk(&file, |_, outcome| {

@@ -1,5 +1,6 @@
 //! The machine: a switch, a chain, the waiting packets and the open
-//! operations, and what each step does to them (document 01).
+//! operations, and what each step does to them (document 01; document 02,
+//! Req 01).
 
 mod chain;
 mod switch;
@@ -26,6 +27,11 @@ impl Stamp {
     /// The stamp (switch, counter).
     pub const fn new(switch: u16, counter: u16) -> Self {
         Stamp((switch as u32) << 16 | counter as u32)
+    }
+
+    /// The switch number.
+    pub const fn switch(self) -> u16 {
+        (self.0 >> 16) as u16
     }
 }
 
@@ -72,18 +78,51 @@ impl Refusal {
     }
 }
 
-/// The operation and value that a deliver has just finished.
+/// How a read's value stands to the pending write that the read went round:
+/// `Old` if its stamp is below the one carried, else `New`; `None` where no
+/// stamp was carried, and for every write.
+#[derive(Clone, Copy, Debug, PartialEq, Eq)]
+pub enum Age {
+    None,
+    Old,
+    New,
+}
+
+impl Age {
+    /// The age of a value with this stamp, for a read that carried this.
+    fn of(value: Stamp, carried: Option<Stamp>) -> Age {
+        match carried {
+            None => Age::None,
+            Some(carried) if value < carried => Age::Old,
+            Some(_) => Age::New,
+        }
+    }
+
+    /// The word that is printed.
+    pub fn word(self) -> &'static str {
+        match self {
+            Age::None => "-",
+            Age::Old => "old",
+            Age::New => "new",
+        }
+    }
+}
+
+/// The operation that a deliver has just finished, with its value and age.
 #[derive(Clone, Copy, Debug, PartialEq, Eq)]
 pub struct Finished {
     pub operation: u16,
     pub value: u32,
+    pub age: Age,
 }
 
 /// What a step gives back: accepted, perhaps with an operation just finished,
 /// or turned down with all unchanged.
 pub type Answer = Result<Option<Finished>, Refusal>;
 
-/// A waiting packet, one case for each item of "What delivery does".
+/// A waiting packet, one case for each item of "What delivery does". What a
+/// normal read and a reply carry is the stamp of the mark that the switch found
+/// when it sent the read to the tail.
 #[derive(Clone, Copy, Debug, PartialEq, Eq)]
 pub enum Packet {
     UnstampedWrite {
@@ -110,6 +149,7 @@ pub enum Packet {
         to: u8,
         operation: u16,
         object: u16,
+        carried: Option<Stamp>,
     },
     Completion {
         object: u16,
@@ -118,6 +158,8 @@ pub enum Packet {
     Reply {
         operation: u16,
         value: u32,
+        carried: Option<Stamp>,
+        age: Age,
     },
 }
 
@@ -153,6 +195,17 @@ impl OpenOperations {
             self.count -= 1;
         }
         open
+    }
+}
+
+/// The reply of a replica that holds this of the object: it carries what its
+/// read carried, and the value's age is decided here.
+fn answered(operation: u16, held: Held, carried: Option<Stamp>) -> Packet {
+    Packet::Reply {
+        operation,
+        value: held.value,
+        carried,
+        age: Age::of(held.stamp, carried),
     }
 }
 
@@ -230,7 +283,12 @@ impl Model {
         }
         self.waiting.remove(position);
         match packet {
-            Packet::Reply { operation, value } => return Ok(self.finish(operation, value)),
+            Packet::Reply {
+                operation,
+                value,
+                age,
+                ..
+            } => return Ok(self.finish(operation, value, age)),
             Packet::Completion { object, stamp } => self.switch.complete(object, stamp),
             Packet::StampedWrite { to, write } => self.write_arrives(to, write),
             other => {
@@ -269,20 +327,20 @@ impl Model {
             } => {
                 let replica = self.chain.replica(to)?;
                 let held = replica.held(object);
-                let value = held.value;
                 if replica.permits == switch && held.stamp <= committed {
-                    Some(Packet::Reply { operation, value })
+                    Some(answered(operation, held, None))
                 } else {
-                    Some(self.to_tail(operation, object))
+                    Some(self.to_tail(operation, object, None))
                 }
             }
             Packet::NormalRead {
                 to,
                 operation,
                 object,
+                carried,
             } => {
-                let value = self.chain.replica(to)?.held(object).value;
-                Some(Packet::Reply { operation, value })
+                let held = self.chain.replica(to)?.held(object);
+                Some(answered(operation, held, carried))
             }
             _ => None,
         }
@@ -306,10 +364,11 @@ impl Model {
     }
 
     /// "Read, to the switch": direct to the replica at place choice mod live,
-    /// or normal to the tail.
+    /// or normal to the tail, with the stamp of a counting mark if there is one.
     fn directed(&self, operation: u16, object: u16, choice: u8) -> Packet {
-        if !self.switch.direct_reads || self.switch.is_marked(object) {
-            return self.to_tail(operation, object);
+        let mark = self.switch.counting_mark(object);
+        if !self.switch.direct_reads || mark.is_some() {
+            return self.to_tail(operation, object, mark);
         }
         let live = self.chain.live();
         Packet::DirectRead {
@@ -322,11 +381,12 @@ impl Model {
     }
 
     /// A normal read to the replica that is the tail now.
-    fn to_tail(&self, operation: u16, object: u16) -> Packet {
+    fn to_tail(&self, operation: u16, object: u16, carried: Option<Stamp>) -> Packet {
         Packet::NormalRead {
             to: self.chain.tail(),
             operation,
             object,
+            carried,
         }
     }
 
@@ -344,6 +404,8 @@ impl Model {
             self.waiting.push(Packet::Reply {
                 operation: write.operation,
                 value: write.value,
+                carried: None,
+                age: Age::None,
             });
             self.waiting.push(Packet::Completion {
                 object: write.object,
@@ -353,9 +415,13 @@ impl Model {
     }
 
     /// "Reply. Finishes the operation if it is open; otherwise ignored."
-    fn finish(&mut self, operation: u16, value: u32) -> Option<Finished> {
+    fn finish(&mut self, operation: u16, value: u32, age: Age) -> Option<Finished> {
         let open = self.open.remove(operation);
-        open.then_some(Finished { operation, value })
+        open.then_some(Finished {
+            operation,
+            value,
+            age,
+        })
     }
 
     /// Tag 4.
@@ -447,6 +513,16 @@ impl Model {
     /// How many marks count.
     pub fn counting_marks(&self) -> usize {
         self.switch.counting()
+    }
+
+    /// The stamp of an object's counting mark, if it has one.
+    pub fn counting_mark(&self, object: u16) -> Option<Stamp> {
+        self.switch.counting_mark(object)
+    }
+
+    /// Are direct reads on?
+    pub fn direct_reads(&self) -> bool {
+        self.switch.direct_reads
     }
 
     /// Value and stamp of an object at a live replica.

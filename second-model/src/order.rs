@@ -1,30 +1,45 @@
 //! Looks for an order of the operations of a run (document 01, "The run that
 //! demand 3 speaks of") by trying all of them, after Wing and Gong.
 
-use crate::model::Step;
+use crate::model::{Age, Step};
 use crate::records::{Reader, Record};
 use std::collections::HashSet;
 
-/// An operation as the steps and their answers show it. Begin and finish are
-/// record numbers; `written` is a write's value and none for a read.
+/// How an operation finished: the record's number, and value and age as its
+/// line says.
+#[derive(Clone, Copy, Debug, PartialEq, Eq)]
+pub struct End {
+    pub at: usize,
+    pub value: u32,
+    pub age: Age,
+}
+
+/// An operation as the steps and their answers show it. `begun` is a record's
+/// number; `written` is a write's value and none for a read.
 #[derive(Clone, Copy, Debug, PartialEq, Eq)]
 pub struct Operation {
     pub object: u16,
     pub written: Option<u32>,
     pub begun: usize,
-    pub finished: Option<(usize, u32)>,
+    pub finished: Option<End>,
 }
 
 /// The operations of a run, read from its records and the lines printed for
 /// them. Nothing if a line is not of the printed form or names no operation.
 pub fn history(input: &[u8], lines: &[u8]) -> Option<Vec<Operation>> {
     let lines = std::str::from_utf8(lines).ok()?;
-    let mut operations = Vec::new();
+    let mut operations: Vec<Operation> = Vec::new();
     for ((number, line), record) in (1..).zip(lines.lines()).zip(Reader::new(input)) {
         let fields: Vec<&str> = line.split(' ').collect();
-        if fields.get(1) != Some(&"ok") {
-            continue;
-        }
+        let finished = match fields[..] {
+            [_, "no", _] => continue,
+            [_, "ok", _, _, "-", "-", "-"] => None,
+            [_, "ok", _, _, operation, value, age] => {
+                let operation: usize = operation.parse().ok()?;
+                Some((operation, end(number, value, age)?))
+            }
+            _ => return None,
+        };
         match record {
             Ok(Record::Step(Step::Read { object })) => {
                 operations.push(begun(number, object, None));
@@ -34,14 +49,22 @@ pub fn history(input: &[u8], lines: &[u8]) -> Option<Vec<Operation>> {
             }
             _ => {}
         }
-        if *fields.get(4)? != "-" {
-            let operation: usize = fields[4].parse().ok()?;
-            let value = fields.get(5)?.parse().ok()?;
+        if let Some((operation, end)) = finished {
             let named = operations.get_mut(operation.checked_sub(1)?)?;
-            named.finished = Some((number, value));
+            named.finished = Some(end);
         }
     }
     Some(operations)
+}
+
+/// The last two fields of a line that names an operation.
+fn end(at: usize, value: &str, age: &str) -> Option<End> {
+    let mut ages = [Age::None, Age::Old, Age::New].into_iter();
+    Some(End {
+        at,
+        value: value.parse().ok()?,
+        age: ages.find(|a| a.word() == age)?,
+    })
 }
 
 /// "The k-th accepted begin starts operation k."
@@ -68,10 +91,14 @@ struct Search<'a> {
 /// perhaps unfinished ones, in which an operation that finished before another
 /// began is earlier, and each finished read gives the value of the last
 /// earlier write of its object, 0 if there is none.
+///
+/// A read that finished `new` must have an earlier write of its object. One
+/// that finished `old` went round a write of its object: one that began before
+/// the read finished and is not earlier in the order.
 pub fn find_order(operations: &[Operation]) -> Option<Vec<usize>> {
     assert!(operations.len() <= 64, "the search is for small runs");
     let honest = |o: &Operation| match (o.written, o.finished) {
-        (Some(written), Some((_, value))) => written == value,
+        (Some(written), Some(end)) => (end.value, end.age) == (written, Age::None),
         _ => true,
     };
     if !operations.iter().all(honest) {
@@ -119,17 +146,30 @@ impl Search<'_> {
     }
 
     /// Not yet taken, nothing left that finished before it began, and if it is
-    /// a read, finished and with the value that stands now.
+    /// a read, finished, with the value that stands now, and of fitting age.
     fn may_be_next(&self, index: usize) -> bool {
         let next = &self.operations[index];
-        let before = |o: &Operation| o.finished.is_some_and(|(at, _)| at < next.begun);
+        let before = |o: &Operation| o.finished.is_some_and(|end| end.at < next.begun);
         if self.taken >> index & 1 == 1 || self.left().any(|(_, o)| before(o)) {
             return false;
         }
         match (next.written, next.finished) {
             (Some(_), _) => true,
-            (None, Some((_, value))) => value == self.standing(next.object),
+            (None, Some(end)) => {
+                end.value == self.standing(next.object) && self.age_fits(next.object, end)
+            }
             (None, None) => false,
+        }
+    }
+
+    /// Does a read of this object that ended so have the age of one that comes
+    /// next in the order?
+    fn age_fits(&self, object: u16, end: End) -> bool {
+        let round = |o: &Operation| o.object == object && o.written.is_some() && o.begun < end.at;
+        match end.age {
+            Age::None => true,
+            Age::Old => self.left().any(|(_, o)| round(o)),
+            Age::New => self.last_write(object).is_some(),
         }
     }
 
@@ -167,16 +207,24 @@ mod tests {
             object,
             written: Some(value),
             begun,
-            finished: at.map(|at| (at, value)),
+            finished: at.map(|at| End {
+                at,
+                value,
+                age: Age::None,
+            }),
         }
     }
 
     fn read(object: u16, value: u32, begun: usize, at: usize) -> Operation {
+        aged(Age::None, object, value, begun, at)
+    }
+
+    fn aged(age: Age, object: u16, value: u32, begun: usize, at: usize) -> Operation {
         Operation {
             object,
             written: None,
             begun,
-            finished: Some((at, value)),
+            finished: Some(End { at, value, age }),
         }
     }
 
@@ -227,9 +275,37 @@ mod tests {
 
     #[test]
     fn a_write_must_finish_with_its_own_value() {
+        let end = |value, age| End { at: 3, value, age };
         let mut wrong = write(3, 1, 2, Some(3));
-        wrong.finished = Some((3, 2));
+        wrong.finished = Some(end(2, Age::None));
         assert_eq!(find_order(&[wrong]), None);
+        wrong.finished = Some(end(1, Age::New));
+        assert_eq!(find_order(&[wrong]), None);
+    }
+
+    #[test]
+    fn a_new_read_has_a_write_before_it() {
+        let new = aged(Age::New, 1, 0, 3, 6);
+        assert_eq!(find_order(&[new]), None);
+        assert_eq!(find_order(&[write(2, 0, 2, None), new]), None);
+        assert_eq!(find_order(&[write(1, 0, 2, None), new]), Some(vec![1, 2]));
+        let late = write(1, 0, 7, Some(8));
+        assert_eq!(find_order(&[new, late]), None);
+    }
+
+    #[test]
+    fn an_old_read_has_a_write_that_is_not_before_it() {
+        let old = aged(Age::Old, 1, 0, 3, 6);
+        assert_eq!(find_order(&[old]), None);
+        assert_eq!(find_order(&[write(2, 7, 2, None), old]), None);
+        assert_eq!(find_order(&[write(1, 7, 2, None), old]), Some(vec![2]));
+        assert_eq!(
+            find_order(&[write(1, 7, 2, Some(5)), old]),
+            Some(vec![2, 1])
+        );
+        let (finished, late) = (write(1, 0, 1, Some(2)), write(1, 7, 7, Some(8)));
+        assert_eq!(find_order(&[finished, old]), None, "came before");
+        assert_eq!(find_order(&[old, late]), None, "began after");
     }
 
     #[test]
@@ -254,9 +330,22 @@ mod tests {
     }
 
     #[test]
+    fn the_history_of_an_old_read() {
+        let input = file("start 2; write 5 9; deliver 0; read 5; 3 * deliver 1");
+        let operations = history(&input, &output(&input)).unwrap();
+        let old = aged(Age::Old, 5, 0, 4, 7);
+        assert_eq!(operations, [write(5, 9, 2, None), old]);
+    }
+
+    #[test]
     fn lines_of_another_form_give_no_history() {
         let input = file("start 2; write 5 9");
-        assert_eq!(history(&input, b"1 ok 0 0 - -\n2 ok\n"), None);
-        assert_eq!(history(&input, b"1 ok 0 0 - -\n2 ok 1 0 7 9\n"), None);
+        let second = |line: &str| format!("1 ok 0 0 - - -\n2 {line}\n").into_bytes();
+        assert!(history(&input, &second("ok 1 0 - - -")).is_some());
+        assert!(history(&input, &second("ok 1 0 1 9 old")).is_some());
+        let others = ["ok", "ok 1 0 - -", "ok 1 0 7 9 -", "ok 1 0 1 9 odd", "no"];
+        for line in others {
+            assert_eq!(history(&input, &second(line)), None, "{line}");
+        }
     }
 }

@@ -1,4 +1,5 @@
-//! What the run program prints (document 01, section of that name).
+//! What the run program prints (document 01, section of that name; document
+//! 02, Req 01).
 
 use crate::model::{Answer, Finished, Model, Refusal};
 use crate::records::{Reader, Record};
@@ -63,7 +64,7 @@ pub fn output(input: &[u8]) -> Vec<u8> {
     out
 }
 
-/// One line: number, then `ok` and its four fields, or `no` and the refusal.
+/// One line: number, then `ok` and its five fields, or `no` and the refusal.
 fn push_line(out: &mut Vec<u8>, number: usize, outcome: Outcome) {
     push_number(out, number);
     match outcome {
@@ -82,15 +83,18 @@ fn push_line(out: &mut Vec<u8>, number: usize, outcome: Outcome) {
     out.push(b'\n');
 }
 
-/// "Operation and value just finished, or `- -`", with a space before each.
+/// "Operation and value just finished, or `- -`", then `old`, `new` or `-`,
+/// with a space before each.
 fn push_finished(out: &mut Vec<u8>, finished: Option<Finished>) {
     let Some(finished) = finished else {
-        return out.extend_from_slice(b" - -");
+        return out.extend_from_slice(b" - - -");
     };
     out.push(b' ');
     push_number(out, usize::from(finished.operation));
     out.push(b' ');
     push_number(out, finished.value as usize);
+    out.push(b' ');
+    out.extend_from_slice(finished.age.word().as_bytes());
 }
 
 /// A number in base ten.
@@ -124,10 +128,27 @@ mod tests {
             "start 2; write 5 9; 2 * deliver 0; advance 2; 2 * deliver 0; \
              read 5; 3 * deliver 0; give up 2",
         );
-        let listing = "1 ok 0 0 - -\n2 ok 1 0 - -\n3 ok 1 1 - -\n4 ok 0 1 - -\n\
-                       5 ok 2 1 - -\n6 ok 1 1 1 9\n7 ok 0 0 - -\n8 ok 1 0 - -\n\
-                       9 ok 1 0 - -\n10 ok 1 0 - -\n11 ok 0 0 2 9\n12 no 13\n";
+        let listing = "1 ok 0 0 - - -\n2 ok 1 0 - - -\n3 ok 1 1 - - -\n\
+                       4 ok 0 1 - - -\n5 ok 2 1 - - -\n6 ok 1 1 1 9 -\n\
+                       7 ok 0 0 - - -\n8 ok 1 0 - - -\n9 ok 1 0 - - -\n\
+                       10 ok 1 0 - - -\n11 ok 0 0 2 9 -\n12 no 13\n";
         assert_eq!(text(&input), listing);
+    }
+
+    /// Two reads pass the switch while write 5 9 is pending; one is answered
+    /// before the tail applies it, the other after.
+    #[test]
+    fn old_and_new() {
+        let input = file(
+            "start 2; write 5 9; 2 * deliver 0; 2 * read 5; 3 * deliver 0; advance 2; \
+             5 * deliver 0",
+        );
+        let lines = "1 ok 0 0 - - -\n2 ok 1 0 - - -\n3 ok 1 1 - - -\n4 ok 0 1 - - -\n\
+                     5 ok 1 1 - - -\n6 ok 2 1 - - -\n7 ok 2 1 - - -\n8 ok 2 1 - - -\n\
+                     9 ok 2 1 - - -\n10 ok 4 1 - - -\n11 ok 4 1 - - -\n\
+                     12 ok 3 1 2 0 old\n13 ok 2 1 1 9 -\n14 ok 1 0 - - -\n\
+                     15 ok 0 0 3 9 new\n";
+        assert_eq!(text(&input), lines);
     }
 
     #[test]
@@ -135,12 +156,12 @@ mod tests {
         assert_eq!(text(&[]), "1 no 1\n");
         assert_eq!(text(&[32]), "1 no 1\n");
         assert_eq!(text(&[32, 0, 1]), "1 no 1\n");
-        assert_eq!(text(&[32, 0, 1, 2]), "1 ok 0 0 - -\n");
+        assert_eq!(text(&[32, 0, 1, 2]), "1 ok 0 0 - - -\n");
         assert_eq!(text(&[32, 0, 1, 0]), "1 no 2\n");
         assert_eq!(text(&[32, 0, 1, 9, 1]), "1 no 2\n");
-        assert_eq!(text(&[32, 0, 1, 8, 1]), "1 ok 0 0 - -\n2 no 1\n");
+        assert_eq!(text(&[32, 0, 1, 8, 1]), "1 ok 0 0 - - -\n2 no 1\n");
         let twice = [32, 0, 1, 1, 32, 0, 1, 9];
-        assert_eq!(text(&twice), "1 ok 0 0 - -\n2 no 1\n");
+        assert_eq!(text(&twice), "1 ok 0 0 - - -\n2 no 1\n");
     }
 
     #[test]

@@ -22,29 +22,60 @@ fn no_difference_with_itself() {
     let text = text(&run);
     assert_eq!(run.status.code(), Some(0), "{text}");
     assert!(text.starts_with("seed 5\n"));
+    for word in ["\nold  ", "\nnew  "] {
+        let (_, after) = text.split_once(word).unwrap();
+        let times = after.lines().next().unwrap().trim();
+        assert_ne!(times, "0", "{word}");
+    }
     let last = text.lines().last().unwrap();
     assert!(last.starts_with("compared 64 files, "), "{last}");
     assert!(last.contains(" 0 differences; orders found for 40 small runs"));
 }
 
-#[test]
-fn a_wrong_program_is_found_and_the_file_shortened() {
-    let keep = PathBuf::from(env!("CARGO_TARGET_TMPDIR")).join("wrong");
+/// What `compare` keeps of a difference.
+struct Kept {
+    short: Vec<u8>,
+    ours: String,
+    theirs: String,
+}
+
+/// Compares a wrong program and gives what is kept of the difference found.
+fn difference(program: &str, folder: &str) -> Kept {
+    let keep = PathBuf::from(env!("CARGO_TARGET_TMPDIR")).join(folder);
     let _ = fs::remove_dir_all(&keep);
-    let wrong = env!("CARGO_BIN_EXE_wrong-run");
-    let run = compare(wrong, &["--seed", "5", "--keep", keep.to_str().unwrap()]);
+    let run = compare(program, &["--seed", "5", "--keep", keep.to_str().unwrap()]);
     let text = text(&run);
     assert_eq!(run.status.code(), Some(1), "{text}");
     assert!(text.contains("difference on file "), "{text}");
     let kept = fs::read_dir(&keep).unwrap().next().unwrap().unwrap().path();
-    let short = fs::read(kept.join("short.records")).unwrap();
-    let ours = fs::read_to_string(kept.join("short.ours")).unwrap();
-    let theirs = fs::read_to_string(kept.join("short.theirs")).unwrap();
-    assert_eq!(output(&short), ours.as_bytes());
-    assert!(ours.ends_with(" no 8\n") && theirs.ends_with(" no 6\n"));
+    let lines = |name: &str| fs::read_to_string(kept.join(name)).unwrap();
+    let kept = Kept {
+        short: fs::read(kept.join("short.records")).unwrap(),
+        ours: lines("short.ours"),
+        theirs: lines("short.theirs"),
+    };
+    assert_eq!(output(&kept.short), kept.ours.as_bytes());
+    kept
+}
+
+#[test]
+fn a_wrong_program_is_found_and_the_file_shortened() {
+    let kept = difference(env!("CARGO_BIN_EXE_wrong-run"), "wrong");
+    assert!(kept.ours.ends_with(" no 8\n") && kept.theirs.ends_with(" no 6\n"));
     // A start, at least 64 begins and repeats, one repeat refused; no more
     // than two steps for each of them are left.
-    assert!(short.len() < 1300, "{} bytes", short.len());
+    let length = kept.short.len();
+    assert!(length < 1300, "{length} bytes");
+}
+
+#[test]
+fn a_wrong_last_field_is_found_and_the_file_shortened() {
+    let kept = difference(env!("CARGO_BIN_EXE_wrong-age-run"), "wrong-age");
+    assert!(kept.ours.ends_with(" 0 old\n") && kept.theirs.ends_with(" 0 -\n"));
+    // A start, a write, a read and four deliveries have 42 bytes; positions
+    // stay as they are, so that packets before them must be left too.
+    let length = kept.short.len();
+    assert!((42..1000).contains(&length), "{length} bytes");
 }
 
 #[test]

@@ -1,12 +1,24 @@
-//! The random files reach every rule of document 01 and each way it drops.
+//! The random files reach every rule of document 01 and each way it drops, and
+//! reads of every age in many situations (document 02, Req 01).
 
-use second_model::generate::{generate, length, Random, KINDS};
+#[path = "coverage/ages.rs"]
+mod ages;
+
+use ages::Ages;
+use second_model::compare::{file, Tally, Task};
 use second_model::model::{Answer, Model, Packet, Refusal, Stamp, Step, FULL};
 use second_model::records::{Reader, Record};
+use second_model::run::INPUT_LONGEST;
 use std::collections::BTreeMap;
+use std::path::PathBuf;
 
-/// Every event that must occur often.
-const WANTED: [&str; 31] = [
+/// The rare event, and how often it must occur at the least.
+const RARE: (&str, usize) = ("begin: 64 open and 64 waiting", 10);
+
+/// Every other event of document 01 that must occur, and how often at the
+/// least.
+const LEAST: usize = 100;
+const WANTED: [&str; 30] = [
     "unstamped write: stamped",
     "unstamped write: no permit",
     "unstamped write: no slot",
@@ -36,29 +48,62 @@ const WANTED: [&str; 31] = [
     "remove: tail with writes",
     "repeat: unstamped with 64 waiting",
     "repeat: full",
-    "begin: 64 open and 64 waiting",
     "begin: full",
 ];
 
-#[test]
-fn every_rule_is_reached() {
-    let mut seen = BTreeMap::new();
-    for index in 0..800 {
-        let kind = KINDS[index % KINDS.len()].0;
-        let mut random = Random::new(index as u64);
-        let length = length(kind, &mut random);
-        let file = generate(kind, random.draw(), length).unwrap();
-        watch(&file, &mut seen);
-    }
-    for event in WANTED {
-        let times = seen.get(event).copied().unwrap_or(0);
-        println!("{event:<42} {times:>9}");
-        assert!(times >= 10, "{event}: {times}");
+/// How often each event was seen.
+type Seen = BTreeMap<&'static str, usize>;
+
+/// A comparison as it is if nothing is named, but for the seed.
+fn comparison() -> Task {
+    Task {
+        program: PathBuf::new(),
+        files: 2000,
+        small: 500,
+        seed: 1,
+        keep: PathBuf::new(),
     }
 }
 
-/// Runs a file and counts its events.
-fn watch(file: &[u8], seen: &mut BTreeMap<&'static str, usize>) {
+#[test]
+fn every_rule_and_every_age_is_reached() {
+    let task = comparison();
+    let mut seen = Seen::new();
+    for index in 0..task.files {
+        watch(&file(&task, index).1, &mut seen);
+    }
+    let rules = WANTED.into_iter().map(|event| (event, LEAST));
+    let mut seldom = String::new();
+    for (event, least) in rules.chain([RARE]).chain(ages::WANTED) {
+        let times = seen.get(event).copied().unwrap_or(0);
+        println!("{event:<42} {times:>9}");
+        if times < least {
+            seldom += &format!("{event}: {times}, not {least}\n");
+        }
+    }
+    assert!(seldom.is_empty(), "{seldom}");
+    for event in ages::NEVER {
+        assert_eq!(seen.get(event), None, "{event}");
+    }
+}
+
+#[test]
+fn small_runs_have_reads_of_every_age() {
+    let task = comparison();
+    let mut tally = Tally::default();
+    for index in task.files..task.files + task.small {
+        tally.count(&file(&task, index).1);
+    }
+    assert!(tally.old >= 100, "old {}", tally.old);
+    assert!(tally.new >= 50, "new {}", tally.new);
+    assert!(tally.finished >= 2 * (tally.old + tally.new));
+}
+
+/// Runs a file and counts its events; one that is too long is not run.
+fn watch(file: &[u8], seen: &mut Seen) {
+    if file.len() > INPUT_LONGEST {
+        return;
+    }
     let mut reader = Reader::new(file);
     let Some(Ok(Record::Start { replicas })) = reader.next() else {
         return;
@@ -66,18 +111,22 @@ fn watch(file: &[u8], seen: &mut BTreeMap<&'static str, usize>) {
     let Ok(mut model) = Model::start(replicas) else {
         return;
     };
+    let mut ages = Ages::default();
     for record in reader {
         let Ok(Record::Step(step)) = record else {
             return;
         };
         let early = before(&model, step);
+        let mut events = ages.before(&model, step);
         let waiting = model.waiting();
         let answer = model.step(step);
         let late = match early {
             Some("unstamped write: permitted" | "read") => at_switch(&model, waiting),
             _ => refused(&model, step, answer),
         };
-        for event in early.into_iter().chain(late) {
+        events.extend(early.into_iter().chain(late));
+        events.extend(ages.after(&model, answer));
+        for event in events {
             *seen.entry(event).or_default() += 1;
         }
     }

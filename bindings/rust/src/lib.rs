@@ -8,7 +8,7 @@ use raw::{Packet, Session, OPENS, PLACES, STORE, SWITCH};
 /// The most bytes that a record, a line and an input have, and room for the
 /// output of any input.
 pub const LONGEST_RECORD: usize = 9;
-pub const LONGEST_LINE: usize = 58;
+pub const LONGEST_LINE: usize = 62;
 pub const LONGEST_INPUT: usize = 65_536;
 pub const OUTPUT_ROOM: usize = 1_048_576;
 
@@ -16,8 +16,34 @@ pub const OUTPUT_ROOM: usize = 1_048_576;
 #[derive(Clone, Copy, Debug, PartialEq, Eq)]
 pub enum Answer {
     Done,
-    Finished { operation: u32, value: u32 },
+    Finished {
+        operation: u32,
+        value: u32,
+        freshness: Freshness,
+    },
     Refused(u8),
+}
+
+/// What a finished read says of the pending write that it went round: `Old` if
+/// its value's stamp is below that write's, `New` if not; `None` where it went
+/// round none, and for every write.
+#[derive(Clone, Copy, Debug, PartialEq, Eq)]
+pub enum Freshness {
+    None,
+    Old,
+    New,
+}
+
+impl Freshness {
+    /// From the number in a session.
+    #[inline]
+    fn from_number(number: u32) -> Freshness {
+        match number {
+            1 => Freshness::Old,
+            2 => Freshness::New,
+            _ => Freshness::None,
+        }
+    }
 }
 
 /// A store of replicas behind a switch, with the memory that the library works in.
@@ -90,6 +116,7 @@ impl Model {
             (0, operation) => Answer::Finished {
                 operation,
                 value: self.session.value,
+                freshness: Freshness::from_number(self.session.freshness),
             },
             (refusal, _) => Answer::Refused(refusal),
         }
@@ -119,6 +146,7 @@ impl Model {
                 s.refusal,
                 s.operation,
                 s.value,
+                s.freshness,
                 s.waiting,
                 s.marks,
                 to,
@@ -218,7 +246,7 @@ mod tests {
 
     #[test]
     fn structs_have_the_sizes_of_the_header() {
-        assert_eq!(size_of::<Session>(), 24);
-        assert_eq!(size_of::<Packet>(), 20);
+        assert_eq!(size_of::<Session>(), 32);
+        assert_eq!(size_of::<Packet>(), 24);
     }
 }

@@ -12,6 +12,7 @@ pub struct Session {
     pub refusal: u8,
     pub operation: u32,
     pub value: u32,
+    pub freshness: u32,
     pub marks: u32,
     pub waiting: usize,
 }
@@ -19,7 +20,7 @@ pub struct Session {
 #[repr(C)]
 #[derive(Clone, Copy, Default)]
 pub struct Packet {
-    pub own: [u32; 5],
+    pub own: [u32; 6],
 }
 
 extern "C" {
@@ -45,6 +46,7 @@ extern "C" {
         refusal: u8,
         operation: u32,
         value: u32,
+        freshness: u32,
         waiting: usize,
         marks: u32,
         out: *mut u8,

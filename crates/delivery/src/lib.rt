@@ -1,7 +1,7 @@
 // Document 01, 'What delivery does': a function for each rule.
 ghost use mathlib.Core.Path.{_≡_};
-ghost use Rattle.protocol.specs.Decisions.{given};
-ghost use Rattle.protocol.specs.Delivery.{stamping, unstampedWrite, switchRead, answering, stampedWrite, directRead, normalRead, completion, reply, deliveredMessage};
+ghost use Rattle.protocol.specs.Delivery.{stamping, unstampedWrite, switchRead, answering, stampedWrite, directRead, freshness, normalRead, completion, reply};
+use limits::Freshness;
 use limits::Number;
 use limits::Object;
 use limits::Operation;
@@ -12,17 +12,18 @@ use protocol::Answer;
 use protocol::Decision;
 use protocol::Message;
 use protocol::Refusal;
+use protocol::answers::NEW;
+use protocol::answers::NONE;
+use protocol::answers::OLD;
 use protocol::decisions;
 use protocol::messages;
-use replicas::Write;
-use replicas::chain;
-use replicas::store;
+use store::Write;
 use switch::cells;
 use waiting::Edit;
 
 // A write with its stamp goes to the head; (0,0) stands for none, and the write is dropped.
 fn stamp_on(
-    store: &[u32; replicas::CELLS],
+    store: &[u32; store::CELLS],
     at: usize,
     o: Operation,
     x: Object,
@@ -43,9 +44,9 @@ fn stamp_on(
     decisions::pass_on(at, Message::StampedWrite(chain::head(store), w))
 }
 
-fn unstamped_write(
+pub fn unstamped_write(
     switch: &mut [u32; switch::CELLS],
-    store: &[u32; replicas::CELLS],
+    store: &[u32; store::CELLS],
     at: usize,
     o: Operation,
     x: Object,
@@ -63,9 +64,9 @@ fn unstamped_write(
     stamp_on(store, at, o, x, v, m.stamp)
 }
 
-fn switch_read(
+pub fn switch_read(
     switch: &[u32; switch::CELLS],
-    store: &[u32; replicas::CELLS],
+    store: &[u32; store::CELLS],
     at: usize,
     choice: u8,
     o: Operation,
@@ -73,17 +74,18 @@ fn switch_read(
 ) -> Decision
     ensures { λ d. ⌜ d ≡ switchRead (now (switch .entry)) (now (store .entry)) at choice o x ⌝ }
 {
+    let mark = cells::lookup(switch, x);
     if !cells::is_direct(switch) {
-        return decisions::pass_on(at, Message::NormalRead(chain::tail(store), o, x));
+        return decisions::pass_on(at, Message::NormalRead(chain::tail(store), o, x, mark));
     }
-    if cells::lookup(switch, x) == 0 {
+    if mark == 0 {
         let to = chain::choose(store, choice);
         return decisions::pass_on(
             at,
             Message::DirectRead(to, cells::number(switch), cells::committed(switch), o, x),
         );
     }
-    decisions::pass_on(at, Message::NormalRead(chain::tail(store), o, x))
+    decisions::pass_on(at, Message::NormalRead(chain::tail(store), o, x, mark))
 }
 
 // The reply and the completion that the tail sends, in the place of the delivered write.
@@ -92,13 +94,13 @@ fn answers(at: usize, w: Write) -> Edit
 {
     decisions::take_out_add_two(
         at,
-        messages::packet_of(Message::Reply(w.operation, w.value)),
+        messages::packet_of(Message::Reply(w.operation, w.value, 0, NONE)),
         messages::packet_of(Message::Completion(w.object, w.stamp)),
     )
 }
 
-fn stamped_write(
-    store: &mut [u32; replicas::CELLS],
+pub fn stamped_write(
+    store: &mut [u32; store::CELLS],
     held: usize,
     at: usize,
     r: Replica,
@@ -121,8 +123,8 @@ fn stamped_write(
     decisions::done(answers(at, w))
 }
 
-fn direct_read(
-    store: &[u32; replicas::CELLS],
+pub fn direct_read(
+    store: &[u32; store::CELLS],
     at: usize,
     r: Replica,
     number: Number,
@@ -137,28 +139,43 @@ fn direct_read(
     }
     if replicas::answers(store, r, x, number, t) {
         let v = store::read_value(store, r, x);
-        return decisions::pass_on(at, Message::Reply(o, v));
+        return decisions::pass_on(at, Message::Reply(o, v, 0, NONE));
     }
-    decisions::pass_on(at, Message::NormalRead(chain::tail(store), o, x))
+    decisions::pass_on(at, Message::NormalRead(chain::tail(store), o, x, 0))
 }
 
-fn normal_read(
-    store: &[u32; replicas::CELLS],
+// What a read that carries the stamp of a pending write says of it, from the stamp of the value that it is answered with.
+fn compare(stamp: Stamp, carried: Stamp) -> Freshness
+    ensures { λ r. ⌜ r ≡ freshness stamp carried ⌝ }
+{
+    if carried == 0 {
+        return NONE;
+    }
+    if stamp::above(carried, stamp) {
+        return OLD;
+    }
+    NEW
+}
+
+pub fn normal_read(
+    store: &[u32; store::CELLS],
     at: usize,
     r: Replica,
     o: Operation,
     x: Object,
+    carried: Stamp,
 ) -> Decision
-    ensures { λ d. ⌜ d ≡ normalRead (now (store .entry)) at r o x ⌝ }
+    ensures { λ d. ⌜ d ≡ normalRead (now (store .entry)) at r o x carried ⌝ }
 {
     if !chain::is_live(store, r) {
         return decisions::drop_packet(at);
     }
     let v = store::read_value(store, r, x);
-    decisions::pass_on(at, Message::Reply(o, v))
+    let f = compare(store::read_stamp(store, r, x), carried);
+    decisions::pass_on(at, Message::Reply(o, v, carried, f))
 }
 
-fn complete(switch: &mut [u32; switch::CELLS], at: usize, x: Object, t: Stamp) -> Decision
+pub fn complete(switch: &mut [u32; switch::CELLS], at: usize, x: Object, t: Stamp) -> Decision
     ensures { λ d. ⌜ (d ≡ completion (now (switch .entry)) at x t .decision)
         × (now (switch .exit) ≡ completion (now (switch .entry)) at x t .switch) ⌝ }
 {
@@ -167,42 +184,21 @@ fn complete(switch: &mut [u32; switch::CELLS], at: usize, x: Object, t: Stamp) -
     decisions::drop_packet(at)
 }
 
-fn finish(opens: &mut [u32; operations::CELLS], at: usize, o: Operation, v: Value) -> Decision
-    ensures { λ d. ⌜ (d ≡ reply (now (opens .entry)) at o v .decision)
-        × (now (opens .exit) ≡ reply (now (opens .entry)) at o v .opens) ⌝ }
+pub fn finish(
+    opens: &mut [u32; operations::CELLS],
+    at: usize,
+    o: Operation,
+    v: Value,
+    f: Freshness,
+) -> Decision
+    ensures { λ d. ⌜ (d ≡ reply (now (opens .entry)) at o v f .decision)
+        × (now (opens .exit) ≡ reply (now (opens .entry)) at o v f .opens) ⌝ }
 {
     if !operations::close(&mut *opens, o) {
         return decisions::drop_packet(at);
     }
     Decision {
-        answer: Answer::Finished(o, v),
+        answer: Answer::Finished(o, v, f),
         edit: decisions::take_out(at),
-    }
-}
-
-// What delivery of a message does.
-pub fn deliver(
-    switch: &mut [u32; switch::CELLS],
-    store: &mut [u32; replicas::CELLS],
-    opens: &mut [u32; operations::CELLS],
-    held: usize,
-    at: usize,
-    choice: u8,
-    m: Message,
-) -> Decision
-    ensures { λ d. ⌜ (d ≡ deliveredMessage (given (now (switch .entry)) (now (store .entry)) (now (opens .entry)) held) at choice m .decision)
-        × (now (switch .exit) ≡ deliveredMessage (given (now (switch .entry)) (now (store .entry)) (now (opens .entry)) held) at choice m .switch)
-        × (now (store .exit) ≡ deliveredMessage (given (now (switch .entry)) (now (store .entry)) (now (opens .entry)) held) at choice m .store)
-        × (now (opens .exit) ≡ deliveredMessage (given (now (switch .entry)) (now (store .entry)) (now (opens .entry)) held) at choice m .opens) ⌝ }
-{
-    match m {
-        Message::UnstampedWrite(o, x, v) => unstamped_write(&mut *switch, store, at, o, x, v),
-        Message::SwitchRead(o, x) => switch_read(switch, store, at, choice, o, x),
-        Message::StampedWrite(r, w) => stamped_write(&mut *store, held, at, r, w),
-        Message::DirectRead(r, number, t, o, x) => direct_read(store, at, r, number, t, o, x),
-        Message::NormalRead(r, o, x) => normal_read(store, at, r, o, x),
-        Message::Completion(x, t) => complete(&mut *switch, at, x, t),
-        Message::Reply(o, v) => finish(&mut *opens, at, o, v),
-        Message::Unknown => decisions::drop_packet(at),
     }
 }

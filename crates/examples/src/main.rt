@@ -1,120 +1,15 @@
 // Tries the stored examples: `index` names them, NAME.records is run, and NAME.lines is what another model prints for it. The listing is also run cut at each of
 // its bytes, against listing-cuts.lines. Names of examples that differ are printed, and last how many were tried and how many differ.
 ghost use mathlib.Core.Path.{_≡_};
-ghost use Prim.Native.Nat.{_+_, _≤_, min};
+ghost use Prim.Native.Nat.{_≤_};
 ghost use lib.ListN.{length};
-ghost use Rattle.io.specs.Counts.{Counts};
 use libc::STDOUT_FILENO;
-
-// Whether the bytes of `part` stand in `s` from a place on.
-fn stands_at(s: &[u8], at: usize, part: &[u8]) -> bool {
-    if s.len() < at {
-        return false;
-    }
-    if s.len() - at < part.len() {
-        return false;
-    }
-    let mut i = 0;
-    while i < part.len() {
-        if s[at + i] != part[i] {
-            return false;
-        }
-        i += 1;
-    }
-    true
-}
-
-fn same(a: &[u8], b: &[u8]) -> bool {
-    if a.len() != b.len() {
-        return false;
-    }
-    stands_at(a, 0, b)
-}
-
-fn least(a: usize, b: usize) -> usize
-    ensures { λ r. ⌜ (r ≤ a) × (r ≤ b) ⌝ }
-{
-    if a < b {
-        return a;
-    }
-    b
-}
-
-// The bytes go into the buffer from a place on, as many as have room. The place after them.
-fn append(buf: &mut [u8], at: usize, from: &[u8]) -> usize
-    requires { ⌜ at ≤ length (now buf) ⌝ }
-    ensures { λ r. ⌜ Counts r (now (buf .exit)) ⌝ }
-{
-    let n = least(from.len(), buf.len() - at);
-    let mut i = 0;
-    while i < n {
-        buf[at + i] = from[i];
-        i += 1;
-    }
-    at + n
-}
-
-// Reads the file NAME.SUFFIX, as far as the buffer has room; nothing where there is none. How many bytes were read.
-fn read_named(name: &[u8], suffix: &[u8], buf: &mut [u8]) -> usize
-    ensures { λ r. ⌜ Counts r (now (buf .exit)) ⌝ }
-{
-    let mut path = io::buffer();
-    let dot = append(&mut path, 0, name);
-    let end = append(&mut path, dot, suffix);
-    let fd = os::open_read(&path[..end]);
-    let n = io::read_full(fd, &mut *buf);
-    libc::close(fd);
-    n
-}
 
 // Room for the lines of any input: `printed-short`, crates/runs/proofs/Whole.antt.
 fn output_room() -> [u8; 1048576]
     ensures { λ r. ⌜ 1048576 ≡ length r ⌝ }
 {
     [0; 1048576]
-}
-
-// The output of an input goes into the buffer, as far as it has room. How many of its bytes are that output.
-fn print(input: &[u8], out: &mut [u8]) -> usize
-    ensures { λ r. ⌜ Counts r (now (out .exit)) ⌝ }
-{
-    least(runs::print(input, &mut *out), out.len())
-}
-
-// Whether the model prints for the example what is expected.
-fn agrees(name: &[u8], input: &mut [u8], expected: &mut [u8], out: &mut [u8]) -> bool {
-    let n = read_named(name, b".records", &mut *input);
-    let m = read_named(name, b".lines", &mut *expected);
-    let used = print(&input[..n], &mut *out);
-    same(&out[..used], &expected[..m])
-}
-
-// Whether the model prints for the input, cut at each of its bytes in turn, what is expected, one output after the other.
-fn cuts_agree(input: &[u8], expected: &[u8], out: &mut [u8]) -> bool {
-    let mut at = 0;
-    let mut cut = 0;
-    while cut <= input.len() {
-        let used = print(&input[..cut], &mut *out);
-        if !stands_at(expected, at, &out[..used]) {
-            return false;
-        }
-        at = after(expected, at, used);
-        cut += 1;
-    }
-    at == expected.len()
-}
-
-// The place after n bytes, or the end.
-fn after(s: &[u8], at: usize, n: usize) -> usize
-    ensures { λ r. ⌜ r ≡ min (at + n) (length (now (s .entry))) ⌝ }
-{
-    if s.len() <= at {
-        return s.len();
-    }
-    if s.len() - at <= n {
-        return s.len();
-    }
-    at + n
 }
 
 fn say(name: &[u8]) {
@@ -130,7 +25,7 @@ fn count_differing(
     expected: &mut [u8],
     out: &mut [u8],
 ) -> u32 {
-    if agrees(name, &mut *input, &mut *expected, &mut *out) {
+    if agreement::agrees(name, &mut *input, &mut *expected, &mut *out) {
         return differ;
     }
     say(name);
@@ -166,7 +61,7 @@ fn try_named(index: &[u8], input: &mut [u8], expected: &mut [u8], out: &mut [u8]
             &mut *out,
         );
         tried = more(tried);
-        at = after(index, end, 1);
+        at = agreement::after(index, end, 1);
     }
     report(tried, differ);
 }
@@ -187,9 +82,9 @@ fn line_end(s: &[u8], at: usize) -> usize
 }
 
 fn try_cuts(input: &mut [u8], expected: &mut [u8], out: &mut [u8]) {
-    let n = read_named(b"listing", b".records", &mut *input);
-    let m = read_named(b"listing-cuts", b".lines", &mut *expected);
-    if cuts_agree(&input[..n], &expected[..m], &mut *out) {
+    let n = agreement::read_named(b"listing", b".records", &mut *input);
+    let m = agreement::read_named(b"listing-cuts", b".lines", &mut *expected);
+    if agreement::cuts_agree(&input[..n], &expected[..m], &mut *out) {
         io::write_all(STDOUT_FILENO, b"the listing cut at each byte agrees\n");
     } else {
         say(b"the listing cut at each byte");
@@ -201,7 +96,7 @@ fn main() {
     let mut expected = output_room();
     let mut out = output_room();
     let mut names = io::large_buffer();
-    let n = read_named(b"index", b"", &mut names);
+    let n = agreement::read_named(b"index", b"", &mut names);
     try_named(&names[..n], &mut input, &mut expected, &mut out);
     try_cuts(&mut input, &mut expected, &mut out);
 }

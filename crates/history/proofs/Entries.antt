@@ -8,18 +8,20 @@ use lib.Dec.{eqb}
 use Rattle.history.specs.History.{_∈_, Kind, reads, writes, History, begun, finished, Begun, Finished, Precedes}
 use Rattle.history.proofs.Lists.{no-member, Pairwise}
 
--- one operation of an order: its values are those that a read gives, or the one that a write writes
+-- one operation of an order: its values are those that a read gives, or the one that a write writes; its stamp is a write's sequence number, which no promise
+-- of an order looks at, and 0 for a read
 pub record Entry : Type 0 where
   pub operation : ℕ
   pub kind : Kind
   pub values : List ℕ
+  pub stamp : ℕ
 
 -- a read, and a write, as an entry
 abbrev pub read-entry : ℕ → List ℕ → List ℕ → Entry
-read-entry o xs vs = record { operation = o; kind = reads xs; values = vs }
+read-entry o xs vs = record { operation = o; kind = reads xs; values = vs; stamp = 0 }
 
-abbrev pub write-entry : ℕ → ℕ → ℕ → Entry
-write-entry o x v = record { operation = o; kind = writes x v; values = v ∷ [] }
+abbrev pub write-entry : ℕ → ℕ → ℕ → ℕ → Entry
+write-entry o x v s = record { operation = o; kind = writes x v; values = v ∷ []; stamp = s }
 
 -- ---- the store
 

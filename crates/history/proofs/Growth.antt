@@ -39,8 +39,8 @@ precedes-begin j w m (inl p) = absurd (w (m .0, begun-at (p .0) (m .1)))
 precedes-begin j w m (inr p) = p
 
 -- an entry stays recorded
-recorded-older : {h : History} {e : Entry} (x : Event) → Recorded h e → Recorded (x ∷ h) e
-recorded-older x r = (there (r .0), elim (r .1) [ inl f ↦ inl (there f) | inr w ↦ inr w ])
+recorded-older : {h : History} (e : Entry) (x : Event) → Recorded h e → Recorded (x ∷ h) e
+recorded-older e x r = (there (r .0), elim (r .1) [ inl f ↦ inl (there f) | inr w ↦ inr w ])
 
 module _ {h : History} {es : List Entry} (l : Linearizes h es) where
   -- a finished operation was begun
@@ -63,7 +63,7 @@ module _ {h : History} {es : List Entry} (l : Linearizes h es) where
     one-kind = λ p i j m n. one-kind p i j (cases-cons m) (cases-cons n);
     begun-first = begun-first;
     complete = λ p vs m. l .complete p vs (older m (λ e. begun-not-finished (sym e)));
-    recorded = λ e m. recorded-older (begun o k) (l .recorded e m);
+    recorded = λ e m. recorded-older e (begun o k) (l .recorded e m);
     ordered = pairwise-imply (MayPrecede h) (MayPrecede (begun o k ∷ h)) es
         (λ e f m n p. (p .0, λ q. p .1 (precedes-begin k w (e .kind, l .recorded e m .0) q)))
         (l .ordered);
@@ -81,9 +81,9 @@ module _ {h : History} {es : List Entry} (l : Linearizes h es) where
       begun-first p (inr q) = l .begun-first p q
 
   -- (2) an unfinished write that is not in the order becomes visible: it goes to the end
-  pub linearizes-visible : {o x v : ℕ} → begun o (writes x v) ∈ h → Unfinished h o → ((e : Entry) → e ∈ es → e .operation ≢ o)
-      → Linearizes h (es ++ write-entry o x v ∷ [])
-  linearizes-visible {o} {x} {v} m w out = record {
+  pub linearizes-visible : {o x v : ℕ} (s : ℕ) → begun o (writes x v) ∈ h → Unfinished h o → ((e : Entry) → e ∈ es → e .operation ≢ o)
+      → Linearizes h (es ++ write-entry o x v s ∷ [])
+  linearizes-visible {o} {x} {v} s m w out = record {
     one-kind = l .one-kind;
     begun-first = l .begun-first;
     complete = λ p vs f. let c = l .complete p vs f in (c .0, in-left (new ∷ []) (c .1), c .2, c .3);
@@ -93,7 +93,7 @@ module _ {h : History} {es : List Entry} (l : Linearizes h es) where
   }
     where
       new : Entry
-      new = write-entry o x v
+      new = write-entry o x v s
 
   -- (3) an operation of the order finishes with its values: the order stays
   pub linearizes-finish : {o : ℕ} {vs : List ℕ} → InOrder es o vs → Linearizes (finished o vs ∷ h) es
@@ -101,7 +101,7 @@ module _ {h : History} {es : List Entry} (l : Linearizes h es) where
     one-kind = one-kind-finish;
     begun-first = l .begun-first;
     complete = λ p us m. elim (cases-cons m) [ inl z ↦ (i .0, i .1, (let q = i .2 in cc), (let q = i .3 in cc)) | inr t ↦ l .complete p us t ];
-    recorded = λ e m. recorded-older (finished o vs) (l .recorded e m);
+    recorded = λ e m. recorded-older e (finished o vs) (l .recorded e m);
     ordered = l .ordered;
     legal = l .legal;
   }
@@ -118,7 +118,7 @@ linearizes-read {h} a b {o} {xs} {vs} l m w g free = record {
   ];
   recorded = λ e i. elim (cases-insert a new b i) [
     | inl z ↦ subst (Recorded (finished o vs ∷ h)) (sym z) (there m, inl (here refl))
-    | inr t ↦ recorded-older (finished o vs) (l .recorded e t)
+    | inr t ↦ recorded-older e (finished o vs) (l .recorded e t)
   ];
   ordered = pairwise-insert (MayPrecede h) a new b (l .ordered)
       (λ e i. (out e (in-left b i), λ p. w (precedes-finished o (e .operation) h p)))

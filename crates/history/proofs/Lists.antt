@@ -1,7 +1,7 @@
 -- Lists: an element inserted, relations of every two elements, one element before another, and cuts of a list.
 use mathlib.Core.Path.{_≡_, refl, sym, ap, _∙_, subst}
 use mathlib.Core.Logic.{_⊎_, inl, inr, _≢_}
-use mathlib.Core.List.{List, [], _∷_, _++_, map, append-nil, Memᴰ·of-map}
+use mathlib.Core.List.{List, [], _∷_, _++_, map, append-nil, Memᴰ·map, Memᴰ·of-map}
 use Prim.Native.Nat.{ℕ, suc, _<_}
 use native.Mathlib.Omega.{arith}
 use lib.ListN.{length, take, drop, getD, take-append-drop}
@@ -84,6 +84,12 @@ module _ {A : Type 0} where
   ahead-append [] b m n = absurd (no-member m)
   ahead-append (z ∷ a) b m n = elim (cases-cons m) [ inl e ↦ inl (e, in-right a n) | inr t ↦ inr (ahead-append a b t n) ]
 
+  -- two elements of the front part
+  pub ahead-front : (x y : A) (a b : List A) → Ahead x y a → Ahead x y (a ++ b)
+  ahead-front x y [] b h = absurd h
+  ahead-front x y (z ∷ a) b (inl h) = inl (h .0, in-left b (h .1))
+  ahead-front x y (z ∷ a) b (inr h) = inr (ahead-front x y a b h)
+
   -- two members stand in one of the two orders, or are the same
   pub ahead-or : {x y : A} (l : List A) → x ∈ l → y ∈ l → (x ≡ y) ⊎ (Ahead x y l ⊎ Ahead y x l)
   ahead-or [] m n = absurd (no-member m)
@@ -111,7 +117,12 @@ module _ {A : Type 0} where
   pub pairwise-cross : (R : A → A → Type 0) {x y : A} (a b : List A) → Pairwise R (a ++ b) → x ∈ a → y ∈ b → R x y
   pairwise-cross R a b p m n = pairwise-ahead R (a ++ b) p (ahead-append a b m n)
 
-  -- the later of the two is a member
+  -- both are members
+  pub ahead-first : (x y : A) (l : List A) → Ahead x y l → x ∈ l
+  ahead-first x y [] h = absurd h
+  ahead-first x y (z ∷ l) (inl h) = here (h .0)
+  ahead-first x y (z ∷ l) (inr h) = there (ahead-first x y l h)
+
   pub ahead-in : (x y : A) (l : List A) → Ahead x y l → y ∈ l
   ahead-in x y [] h = absurd h
   ahead-in x y (z ∷ l) (inl h) = there (h .1)
@@ -165,6 +176,12 @@ module _ {A B : Type 0} (f : A → B) where
   pub pairwise-map : (R : B → B → Type 0) (l : List A) → Pairwise (λ x y. R (f x) (f y)) l → Pairwise R (map f l)
   pairwise-map R [] p = tt
   pairwise-map R (x ∷ l) p = (λ b m. let r = Memᴰ·of-map f l m in subst (R (f x)) (r .2) (p .0 (r .0) (r .1)), pairwise-map R l (p .1))
+
+  -- the results of two elements, one before the other
+  pub ahead-map : (x y : A) (l : List A) → Ahead x y l → Ahead (f x) (f y) (map f l)
+  ahead-map x y [] h = absurd h
+  ahead-map x y (z ∷ l) (inl h) = inl (ap f (h .0), Memᴰ·map f (h .1))
+  ahead-map x y (z ∷ l) (inr h) = inr (ahead-map x y l h)
 
   -- two elements of which f gives the same are the same, where no two elements have the same result
   pub same-member : {x y : A} (l : List A) → Pairwise (λ u v. f u ≢ f v) l → x ∈ l → y ∈ l → f x ≡ f y → x ≡ y

@@ -9,7 +9,7 @@ use lib.ListN.{length, length-append, length-map}
 use Rattle.history.specs.History.{_∈_, writes, History, Begun}
 use Rattle.history.proofs.Lists.{here, in-insert, cut-at, Pairwise, pairwise-at, pairwise-map, pairwise-remove}
 use Rattle.history.proofs.Entries.{Entry}
-use Rattle.replicas.specs.declared.Write.{Write}
+use Rattle.store.specs.declared.Write.{Write}
 use Rattle.linearizability.proofs.Members.{has, has-true, has-false}
 use Rattle.linearizability.proofs.Visible.{Visible, Distinct}
 

@@ -1,7 +1,7 @@
 -- The invariant of the order, the log, the waiting packets and the switch's last-committed stamp together, and every change that a step makes to them.
 -- Of the chain there is only how many writes of the log its tail has applied.
 use mathlib.Core.Path.{_≡_, refl, sym, ap, _∙_, subst}
-use mathlib.Core.Logic.{inl, inr}
+use mathlib.Core.Logic.{inl, inr, _≢_}
 use mathlib.Core.List.{List, [], _∷_, _++_, append-assoc}
 use Prim.Native.Nat.{ℕ, zero, suc, _+_, _-_, _≤_, _<_, max}
 use native.Mathlib.Omega.{arith}
@@ -13,11 +13,16 @@ use Rattle.history.proofs.Entries.{Entry, read-entry, New, Unfinished, InOrder}
 use Rattle.history.proofs.Growth.{begun-at}
 use Rattle.history.proofs.Readable.{Readable, placed, readable-now, readable-begin, readable-visible, readable-finish, readable-placed}
 use Rattle.log.proofs.Log.{values, stamps, top, top-take, same-value, below-top, rising-take}
-use Rattle.replicas.specs.declared.Write.{Write}
+use Rattle.store.specs.declared.Write.{Write}
+use Rattle.protocol.specs.Answers.{noFreshness, newRead}
 use Rattle.protocol.specs.declared.Message.{Message}
 use Rattle.protocol.specs.declared.Message.the-variants.{UnstampedWrite, StampedWrite, Completion, Reply}
-use Rattle.linearizability.proofs.Visible.{entry, shows, Visible, visible-start, visible-begin, visible-finish, visible-reply, visible-stamp, visible-accept, visible-cut, visible-show, hidden-unfinished}
+use Rattle.linearizability.proofs.Visible.{entry, shows, Wrote, Visible, visible-wrote, visible-start, visible-begin, visible-finish, visible-reply, visible-stamp, visible-accept, visible-cut, visible-show, hidden-unfinished}
 use Rattle.linearizability.proofs.Packets.{Fine, Asks, Packets, packets-start, grows-event, packets-grows, packets-begun, packets-lose, packets-add, packets-ask, packets-stamp}
+
+-- a reply that says nothing of a pending write is not `new`
+none-new : noFreshness ≢ newRead
+none-new e = omega (arith, e)
 
 -- c is the switch's last-committed stamp
 pub record Core (h : History) (es : List Entry) (issued log : List Write) (n : ℕ) (messages : List Message) (c : ℕ) : Type 0 where
@@ -35,24 +40,24 @@ module _ {h : History} {es : List Entry} {issued log : List Write} {n : ℕ} {me
 
   -- an event after which the order has the same entries and perhaps others
   core-event : {e : Event} {es' : List Entry} → Visible (e ∷ h) es' issued log n → ((f : Entry) → f ∈ es → f ∈ es')
-      → ((o : ℕ) (xs vs : List ℕ) → Begun h o → Readable h es o xs vs → Readable (e ∷ h) es' o xs vs) → Core (e ∷ h) es' issued log n messages c
+      → ((o : ℕ) (xs vs : List ℕ) (was : List Entry) → Begun h o → Readable h es o xs vs was → Readable (e ∷ h) es' o xs vs was) → Core (e ∷ h) es' issued log n messages c
   core-event v old r = record { visible = v; packets = packets-grows (grows-event old r) (k .packets); low = k .low }
 
   -- an operation begins
   pub core-begin : (o : ℕ) (a : Kind) → New h o → Core (begun o a ∷ h) es issued log n messages c
-  core-begin o a w = core-event (visible-begin (k .visible) o a w) (λ f i. i) (λ p xs vs b r. readable-begin r w b)
+  core-begin o a w = core-event (visible-begin (k .visible) o a w) (λ f i. i) (λ p xs vs was b r. readable-begin r w b)
 
   -- an operation of the order finishes
   pub core-finish : {o : ℕ} {vs : List ℕ} → InOrder es o vs → Core (finished o vs ∷ h) es issued log n messages c
-  core-finish i = core-event (visible-finish (k .visible) i) (λ f j. j) (λ p xs us b r. readable-finish r)
+  core-finish i = core-event (visible-finish (k .visible) i) (λ f j. j) (λ p xs us was b r. readable-finish r)
 
   -- an answered read finishes, and takes its place in the order
-  pub core-reply : {o : ℕ} {xs vs : List ℕ} → begun o (reads xs) ∈ h → Unfinished h o → (r : Readable h es o xs vs)
+  pub core-reply : {o : ℕ} {xs vs : List ℕ} {was : List Entry} → begun o (reads xs) ∈ h → Unfinished h o → (r : Readable h es o xs vs was)
       → Core (finished o vs ∷ h) (placed r) issued log n messages c
   core-reply {o} {xs} {vs} b w r =
       core-event (visible-reply (k .visible) b w r)
       (λ f i. in-insert (r .front) (read-entry o xs vs) (r .back) (subst (λ (l : List Entry). f ∈ l) (r .cut) i))
-      (λ p ys us d q. readable-placed q r w)
+      (λ p ys us then d q. readable-placed q r w)
 
   -- ---- packets join the list
 
@@ -60,19 +65,21 @@ module _ {h : History} {es : List Entry} {issued log : List Write} {n : ℕ} {me
   pub core-add : (m : Message) → Fine h es issued (top 0 (take n log)) m → ((o : ℕ) → Asks m o → ⊥) → Core h es issued log n (messages ++ m ∷ []) c
   core-add m f a = record { visible = k .visible; packets = packets-add messages m f a (k .packets); low = k .low }
 
-  -- a read is answered with what the tail has
-  core-answer : (o x v : ℕ) → begun o (reads (x ∷ [])) ∈ h → v ≡ values (take n log) x → Core h es issued log n (messages ++ Reply o v ∷ []) c
-  core-answer o x v b e =
-      core-add (Reply o v) (inr (x, b, readable-now es (ap (λ (z : ℕ). z ∷ []) (e ∙ sym (k .visible .store x))))) (λ p q. q)
+  -- a read that carries the stamp d is answered with what the tail has, and with `new` only if the order has a write from d on
+  core-answer : (o x v d f : ℕ) → begun o (reads (x ∷ [])) ∈ h → v ≡ values (take n log) x → (f ≡ newRead → Wrote x d es)
+      → Core h es issued log n (messages ++ Reply o v d f ∷ []) c
+  core-answer o x v d f b e s =
+      core-add (Reply o v d f) (inr (x, b, es, readable-now es (ap (λ (z : ℕ). z ∷ []) (e ∙ sym (k .visible .store x))), s)) (λ p q. q)
 
   -- an answer from a replica that has applied the first m writes, where x's stamp is not above the stamp d that the read carries
   pub core-direct : (o x m d : ℕ) → begun o (reads (x ∷ [])) ∈ h → d ≤ top 0 (take n log) → n ≤ m → stamps (take m log) x ≤ d
-      → Core h es issued log n (messages ++ Reply o (values (take m log) x) ∷ []) c
-  core-direct o x m d b l g s = core-answer o x (values (take m log) x) b (same-value n m d x log (k .visible .rising) g l s)
+      → Core h es issued log n (messages ++ Reply o (values (take m log) x) 0 noFreshness ∷ []) c
+  core-direct o x m d b l g s = core-answer o x (values (take m log) x) 0 noFreshness b (same-value n m d x log (k .visible .rising) g l s) (λ e. absurd (none-new e))
 
-  -- an answer from the tail
-  pub core-normal : (o x : ℕ) → begun o (reads (x ∷ [])) ∈ h → Core h es issued log n (messages ++ Reply o (values (take n log) x) ∷ []) c
-  core-normal o x b = core-answer o x (values (take n log) x) b refl
+  -- an answer from the tail, which is `new` only if x's stamp there is not below the one carried
+  pub core-normal : (o x d f : ℕ) → begun o (reads (x ∷ [])) ∈ h → (f ≡ newRead → (0 < d) × (d ≤ stamps (take n log) x))
+      → Core h es issued log n (messages ++ Reply o (values (take n log) x) d f ∷ []) c
+  core-normal o x d f b s = core-answer o x (values (take n log) x) d f b refl (λ e. visible-wrote (k .visible) x d (s e .0) (s e .1))
 
   -- ---- the log
 
@@ -100,7 +107,7 @@ module _ {h : History} {es : List Entry} {issued log : List Write} {n : ℕ} {me
           entries = λ e i. in-left (entry w ∷ []) i;
           issues = λ u i. i;
           tops = up;
-          reading = λ o xs vs b r. readable-visible r (entry w) (hidden-unfinished (k .visible) w (drop (suc n) log) (split-at log n d l));
+          reading = λ o xs vs was b r. readable-visible r (entry w) (hidden-unfinished (k .visible) w (drop (suc n) log) (split-at log n d l));
         }) (k .packets);
         low = omega (arith, k .low, up);
       }
@@ -146,9 +153,10 @@ reveal-by : {h : History} {issued log : List Write} {messages : List Message} {c
     → Core h es issued log n messages c → Core h (shows es (slice n m log)) issued log m messages c
 reveal-by {h} {issued} {log} {messages} {c} zero m n es e l k =
     let same : n ≡ m = omega (arith, e) in
-    rw (same, slice-empty) (subst (λ (i : ℕ). Core h es issued log i messages c) same k)
-reveal-by {log} (suc j) m n es e l k =
-    rw (slice-cons n m log no-write (omega (arith, e)) l)
+    subst (λ (i : ℕ). Core h (shows es (slice n i log)) issued log i messages c) same
+    (subst (λ (ws : List Write). Core h (shows es ws) issued log n messages c) (sym (slice-empty n log)) k)
+reveal-by {h} {issued} {log} {messages} {c} (suc j) m n es e l k =
+    subst (λ (ws : List Write). Core h (shows es ws) issued log m messages c) (sym (slice-cons n m log no-write (omega (arith, e)) l))
     (reveal-by j m (suc n) (es ++ entry (getD log n no-write) ∷ []) (omega arith) l (core-show k no-write (omega (arith, e))))
 
 module _ {h : History} {es : List Entry} {issued log : List Write} {n : ℕ} {messages : List Message} {c : ℕ} (k : Core h es issued log n messages c) where
@@ -158,11 +166,13 @@ module _ {h : History} {es : List Entry} {issued log : List Write} {n : ℕ} {me
 
   -- the tail sends a reply and a completion for a write that it has applied
   pub core-sent : (w : Write) → w ∈ take n log → entry w ∈ es
-      → Core h es issued log n (messages ++ Reply (w .operation) (w .value) ∷ Completion (w .object) (w .stamp) ∷ []) c
+      → Core h es issued log n (messages ++ Reply (w .operation) (w .value) 0 noFreshness ∷ Completion (w .object) (w .stamp) ∷ []) c
   core-sent w m i =
-      let replied = core-add k (Reply (w .operation) (w .value)) (inl (entry w, i, refl, refl)) (λ p q. q) in
+      let reply : Message = Reply (w .operation) (w .value) 0 noFreshness in
+      let completion : Message = Completion (w .object) (w .stamp) in
       let low = below-top 0 (take n log) w (rising-take 0 n log (k .visible .rising)) m in
-      rw append-assoc at (core-add replied (Completion (w .object) (w .stamp)) low (λ p q. q))
+      subst (λ (l : List Message). Core h es issued log n l c) (append-assoc messages (reply ∷ []) (completion ∷ []))
+      (core-add (core-add k reply (inl ((entry w, i, refl, refl), none-new)) (λ p q. q)) completion low (λ p q. q))
 
   -- a write begins
   pub core-ask : (o x v : ℕ) → New h o → Core (begun o (writes x v) ∷ h) es issued log n (messages ++ UnstampedWrite o x v ∷ []) c

@@ -20,31 +20,33 @@ use Rattle.switch.specs.DirtySet.{lookedUp, marked, stampFor, completed}
 use Rattle.switch.proofs.Laws.{SizedSwitch, sized-marked, marked-committed, marked-counter, sized-completed, completed-committed, completed-counter}
 use Rattle.operations.specs.{isOpen, lastGiven, closing}
 use Rattle.operations.proofs.Laws.{sized-closing, last-closing, open-after-closing, once-closing}
-use Rattle.replicas.specs.declared.Write.{Write}
-use Rattle.replicas.specs.Store.{members, appliedBy, valueAt}
-use Rattle.replicas.specs.Chain.{isLive, headOf, tailOf, chosenBy, allPermit}
+use Rattle.store.specs.declared.Write.{Write}
+use Rattle.store.specs.{members, appliedBy, valueAt, stampAt}
+use Rattle.chain.specs.{isLive, headOf, tailOf, chosenBy, allPermit}
 use Rattle.replicas.specs.Replicas.{accepts, taking, answersDirect}
-use Rattle.replicas.proofs.Members.{live-same, head-same, tail-same}
+use Rattle.chain.proofs.Members.{live-same, head-same, tail-same}
 use Rattle.replicas.proofs.Cells.{members-applying, members-logged}
 use Rattle.replicas.proofs.Moves.{accepts-live, answers-stamp, taking-is}
 use Rattle.waiting.specs.Waiting.{held, edited}
 use Rattle.waiting.proofs.Laws as waiting
+use Rattle.protocol.specs.Answers.{noFreshness}
 use Rattle.protocol.specs.declared.Decision.{Decision}
 use Rattle.protocol.specs.declared.Message.{Message}
 use Rattle.protocol.specs.declared.Message.the-variants.{UnstampedWrite, SwitchRead, StampedWrite, DirectRead, NormalRead, Completion, Reply, Unknown}
 use Rattle.protocol.specs.declared.Refusal.the-variants.{WaitingFull}
 use Rattle.protocol.specs.declared.Step.the-variants.{Deliver}
 use Rattle.protocol.specs.Decisions.{Outcome, Switched, Stored, switched, stored, keeping, changingSwitch, changingStore, changingOpens, deciding, takeOut, dropping, passing, overfull}
-use Rattle.protocol.specs.Delivery.{stamping, unstampedWrite, switchRead, answering, stampedWrite, directRead, normalRead, completion, reply, deliveredMessage}
+use Rattle.protocol.specs.Delivery.{stamping, unstampedWrite, switchRead, answering, stampedWrite, directRead, freshness, normalRead, completion, reply, deliveredMessage}
 use Rattle.protocol.specs.Steps.{Machine, machine, givenBy}
-use Rattle.log.proofs.Log.{top}
+use Rattle.protocol.proofs.Freshness.{new-from}
+use Rattle.log.proofs.Log.{stamps, top}
 use Rattle.log.proofs.Holds.{Small, small-append}
-use Rattle.log.proofs.Shows.{Shows, applied-between, read-value, read-stamp, read-tail}
+use Rattle.log.proofs.Shows.{Shows, applied-between, read-value, read-stamp, read-tail, stamp-tail}
 use Rattle.log.proofs.Moves.{shows-taken-above, shows-taken, shows-taken-lone, taken-lone-all, visible-taken, visible-taken-lone}
 use Rattle.linearizability.proofs.Packets.{Fine, Asks, unstampedOne, unstamped, unstamped-append, unstamped-lost, asks-none}
 use Rattle.linearizability.proofs.Core.{Core, core-add, core-direct, core-normal, core-accept, core-commit, core-lose, core-stamp}
 use Rattle.linearizability.proofs.Order.{core-outcome, core-finishes}
-use Rattle.linearizability.proofs.Waits.{messages, front, back, Stands, taken-out, taken-out-add, taken-out-add-two}
+use Rattle.linearizability.proofs.Waits.{messages, front, back, Stands, stands-in, taken-out, taken-out-add, taken-out-add-two}
 use Rattle.linearizability.proofs.Invariant.{Placed, Books, Good, done, madeVisible, Then, order-stays, good-refused, posted-lost, posted-add}
 
 -- the invariant, from what the list then holds
@@ -67,9 +69,9 @@ placed-same s t e (UnstampedWrite o x v) p = p
 placed-same s t e (SwitchRead o x) p = p
 placed-same s t e (StampedWrite r w) p = λ l. p (sym (live-same t s e r) ∙ l) ∙ sym (head-same t s e)
 placed-same s t e (DirectRead r number c o x) p = p
-placed-same s t e (NormalRead r o x) p = λ l. p (sym (live-same t s e r) ∙ l) ∙ sym (tail-same t s e)
+placed-same s t e (NormalRead r o x c) p = λ l. p (sym (live-same t s e r) ∙ l) ∙ sym (tail-same t s e)
 placed-same s t e (Completion x c) p = p
-placed-same s t e (Reply o v) p = p
+placed-same s t e (Reply o v c f) p = p
 placed-same s t e Unknown p = p
 
 -- an operation other than the one that finishes stays unfinished
@@ -115,10 +117,10 @@ module _ {m : Machine} {h : History} {es : List Entry} (g : Good m h es) {at : �
   whole = subst (λ (l : List Message). Core h es (g .issued) (g .log) (g .n) l (committedIn (m .switch))) (i .split) (g .core)
 
   fine : Fine h es (g .issued) (top 0 (take (g .n) (g .log))) msg
-  fine = whole .packets .fine msg (inserted (front at (m .waiting)) msg (back at (m .waiting)))
+  fine = g .core .packets .fine msg (stands-in i)
 
   placed : Placed (m .store) msg
-  placed = g .posted msg (subst (λ (l : List Message). msg ∈ l) (sym (i .split)) (inserted (front at (m .waiting)) msg (back at (m .waiting))))
+  placed = g .posted msg (stands-in i)
 
   lost : Core h es (g .issued) (g .log) (g .n) rest (committedIn (m .switch))
   unfolding rest
@@ -203,35 +205,35 @@ module _ {m : Machine} {h : History} {es : List Entry} (g : Good m h es) {at : �
         let s : Shows store (g .log ++ w ∷ []) (suc (g .n)) = shows-taken-lone (g .shown) r w taken first (g .core .visible .rising) small lone in
         let long : suc (g .n) ≤ length (g .log ++ w ∷ []) = rw length-append (omega (arith, taken-lone-all (g .shown) r w taken first lone)) in
         let one : slice (g .n) (suc (g .n)) (g .log ++ w ∷ []) ≡ w ∷ [] = visible-taken-lone (g .shown) r w taken first lone in
-        let sent : List Message = Reply (w .operation) (w .value) ∷ Completion (w .object) (w .stamp) ∷ [] in
+        let sent : List Message = Reply (w .operation) (w .value) 0 noFreshness ∷ Completion (w .object) (w .stamp) ∷ [] in
         let c = core-outcome accepted {n' = suc (g .n)} (omega arith) long sent (inr (w, one, refl)) in
         let shown : madeVisible m (done m (changingStore (givenBy m) (stored (deciding (answering at w)) store))) ≡ slice (g .n) (suc (g .n)) (g .log ++ w ∷ []) =
         rw (s .tail-has, g .shown .tail-has) (visible-taken (g .shown) r w taken first (suc (g .n)) (omega arith) long) in
         rw shown
         (good-of (g .issued) (g .log ++ w ∷ []) (suc (g .n)) (rest ++ sent)
-        (taken-out-add-two (m .waiting) i (Reply (w .operation) (w .value)) (Completion (w .object) (w .stamp)) roomy) c s
+        (taken-out-add-two (m .waiting) i (Reply (w .operation) (w .value) 0 noFreshness) (Completion (w .object) (w .stamp)) roomy) c s
         (λ q j. placed-same (m .store) store same-members q (elim (cases-append rest j) [ inl l ↦ others q l | inr l ↦ answer q l ])) (g .books)
         (omega (arith, fewer, unstamped-append rest sent)) (g .switch-sized) (waiting.exact-edited (m .waiting) _ (g .exact)))
       where
-        answer : (q : Message) → q ∈ Reply (w .operation) (w .value) ∷ Completion (w .object) (w .stamp) ∷ [] → Placed (m .store) q
+        answer : (q : Message) → q ∈ Reply (w .operation) (w .value) 0 noFreshness ∷ Completion (w .object) (w .stamp) ∷ [] → Placed (m .store) q
         answer q j = elim (cases-cons j) [ inl e ↦ rw e tt | inr l ↦ rw (only-member l) tt ]
 
   -- ---- a reply finishes its operation
 
-  good-finished : (o v : ℕ) → msg ≡ Reply o v → isOpen (m .opens) o ≡ true → After (changingOpens (givenBy m) (reply (m .opens) at o v))
+  good-finished : (o v c f : ℕ) → msg ≡ Reply o v c f → isOpen (m .opens) o ≡ true → After (changingOpens (givenBy m) (reply (m .opens) at o v f))
   unfolding rest reply
-  good-finished o v e still =
+  good-finished o v c f e still =
       rw still
       (rw (order-stays m (machine (m .switch) (m .store) (closing (m .opens) o) (edited (m .waiting) (takeOut at))) es refl)
       (good-of (g .issued) (g .log) (g .n) rest (taken-out (m .waiting) i)
-      (core-finishes lost o v (subst (Fine h es (g .issued) (top 0 (take (g .n) (g .log)))) e fine) (g .books .opened o still .1))
+      (core-finishes lost o v c f (subst (Fine h es (g .issued) (top 0 (take (g .n) (g .log)))) e fine) (g .books .opened o still .1))
       (g .shown) others (books-finish o still (g .books) v) (omega (arith, fewer, last-closing (m .opens) o (g .books .cells) still)) (g .switch-sized)
       (waiting.exact-edited (m .waiting) _ (g .exact))))
 
   -- a reply of an operation that is not open is ignored
-  good-ignored : (o v : ℕ) → isOpen (m .opens) o ≡ false → After (changingOpens (givenBy m) (reply (m .opens) at o v))
+  good-ignored : (o v f : ℕ) → isOpen (m .opens) o ≡ false → After (changingOpens (givenBy m) (reply (m .opens) at o v f))
   unfolding reply
-  good-ignored o v e = rw e good-dropped
+  good-ignored o v f e = rw e good-dropped
 
 -- ---- every message
 
@@ -264,8 +266,8 @@ good-message {m} {h} {es} g {at} choice (SwitchRead o x) i =
     P : Decision → Type 0
     P d = After g choice i (keeping (givenBy m) d)
 
-    slow : After g choice i (keeping (givenBy m) (passing at (NormalRead (tailOf (m .store)) o x)))
-    slow = good-sent g choice i (NormalRead (tailOf (m .store)) o x) (fine g choice i) (λ p q. q) (λ l. refl)
+    slow : After g choice i (keeping (givenBy m) (passing at (NormalRead (tailOf (m .store)) o x (lookedUp (m .switch) x))))
+    slow = good-sent g choice i (NormalRead (tailOf (m .store)) o x (lookedUp (m .switch) x)) (fine g choice i) (λ p q. q) (λ l. refl)
 good-message {m} {h} {es} g {at} choice (StampedWrite r w) i =
     by-test P (accepts (m .store) r (w .stamp)) _ _
     (λ taken.
@@ -283,8 +285,8 @@ good-message {m} {h} {es} g {at} choice (StampedWrite r w) i =
 good-message {m} {h} {es} g {at} choice (DirectRead r number t o x) i =
     by-test P (isLive (m .store) r) _ _
     (λ live. by-test P (answersDirect (m .store) r x number t) _ _
-    (λ yes'. good-answered g choice i (Reply o (valueAt (m .store) r x)) (answered live yes') tt refl)
-    (λ no'. good-sent g choice i (NormalRead (tailOf (m .store)) o x) (f .0) (λ p q. q) (λ l. refl)))
+    (λ yes'. good-answered g choice i (Reply o (valueAt (m .store) r x) 0 noFreshness) (answered live yes') tt refl)
+    (λ no'. good-sent g choice i (NormalRead (tailOf (m .store)) o x 0) (f .0) (λ p q. q) (λ l. refl)))
     (λ gone. good-dropped g choice i)
   where
     P : Decision → Type 0
@@ -297,31 +299,34 @@ good-message {m} {h} {es} g {at} choice (DirectRead r number t o x) i =
     small = g .books .ranged o (reads (x ∷ [])) (f .0) x (here refl)
 
     answered : isLive (m .store) r ≡ true → answersDirect (m .store) r x number t ≡ true
-        → Core h es (g .issued) (g .log) (g .n) (rest g choice i ++ Reply o (valueAt (m .store) r x) ∷ []) (committedIn (m .switch))
+        → Core h es (g .issued) (g .log) (g .n) (rest g choice i ++ Reply o (valueAt (m .store) r x) 0 noFreshness ∷ []) (committedIn (m .switch))
     answered live e =
         rw (read-value (g .shown) r x live small)
         (core-direct (lost g choice i) o x (appliedBy (m .store) r) t (f .0) (f .1) (applied-between (g .shown) r live .0)
         (rw (read-stamp (g .shown) r x live small) at (answers-stamp (m .store) r x number t e)))
-good-message {m} {h} {es} g {at} choice (NormalRead r o x) i =
+good-message {m} {h} {es} g {at} choice (NormalRead r o x c) i =
     by-test (λ (d : Decision). After g choice i (keeping (givenBy m) d)) (isLive (m .store) r) _ _
-    (λ live. good-answered g choice i (Reply o (valueAt (m .store) r x)) (answered (placed g choice i live)) tt refl)
+    (λ live. good-answered g choice i (Reply o (valueAt (m .store) r x) c (freshness (stampAt (m .store) r x) c)) (answered (placed g choice i live)) tt refl)
     (λ gone. good-dropped g choice i)
   where
     f : begun o (reads (x ∷ [])) ∈ h
     f = fine g choice i
 
+    small : x < 1024
+    small = g .books .ranged o (reads (x ∷ [])) f x (here refl)
+
     answered : r ≡ tailOf (m .store)
-        → Core h es (g .issued) (g .log) (g .n) (rest g choice i ++ Reply o (valueAt (m .store) r x) ∷ []) (committedIn (m .switch))
+        → Core h es (g .issued) (g .log) (g .n) (rest g choice i ++ Reply o (valueAt (m .store) r x) c (freshness (stampAt (m .store) r x) c) ∷ []) (committedIn (m .switch))
     answered e =
-        rw (e, read-tail (g .shown) x (g .books .ranged o (reads (x ∷ [])) f x (here refl)))
-        (core-normal (lost g choice i) o x f)
+        rw (e, read-tail (g .shown) x small, stamp-tail (g .shown) x small)
+        (core-normal (lost g choice i) o x c (freshness (stamps (take (g .n) (g .log)) x) c) f (new-from (stamps (take (g .n) (g .log)) x) c))
 good-message {m} {h} {es} g {at} choice (Completion x t) i =
     good-switched g choice i (completed (m .switch) x t)
     (rw (completed-committed (m .switch) x t (g .switch-sized), larger-is (committedIn (m .switch)) t) (core-commit (lost g choice i) t (fine g choice i)))
     (omega (arith, completed-counter (m .switch) x t (g .switch-sized))) (sized-completed (m .switch) x t (g .switch-sized))
-good-message {m} {h} {es} g {at} choice (Reply o v) i = go (isOpen (m .opens) o) refl
+good-message {m} {h} {es} g {at} choice (Reply o v c f) i = go (isOpen (m .opens) o) refl
   where
-    go : (b : Bool) → isOpen (m .opens) o ≡ b → After g choice i (changingOpens (givenBy m) (reply (m .opens) at o v))
-    go true e = good-finished g choice i o v refl e
-    go false e = good-ignored g choice i o v e
+    go : (b : Bool) → isOpen (m .opens) o ≡ b → After g choice i (changingOpens (givenBy m) (reply (m .opens) at o v f))
+    go true e = good-finished g choice i o v c f refl e
+    go false e = good-ignored g choice i o v f e
 good-message {m} {h} {es} g {at} choice Unknown i = good-dropped g choice i

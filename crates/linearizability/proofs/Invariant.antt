@@ -14,9 +14,9 @@ use Rattle.switch.specs.Numbers.{counterIn, committedIn}
 use Rattle.switch.proofs.Laws.{SizedSwitch}
 use Rattle.operations.specs.{isOpen, lastGiven}
 use Rattle.operations.proofs.Laws.{SizedOpens, OpenOnce}
-use Rattle.replicas.specs.declared.Write.{Write}
-use Rattle.replicas.specs.Store.{appliedBy}
-use Rattle.replicas.specs.Chain.{isLive, headOf, tailOf}
+use Rattle.store.specs.declared.Write.{Write}
+use Rattle.store.specs.{appliedBy}
+use Rattle.chain.specs.{isLive, headOf, tailOf}
 use Rattle.replicas.specs.Links.{entries}
 use Rattle.waiting.specs.Waiting.{edited}
 use Rattle.waiting.proofs.Laws as waiting
@@ -44,9 +44,9 @@ Placed s (UnstampedWrite o x v) = Unit {0}
 Placed s (SwitchRead o x) = Unit {0}
 Placed s (StampedWrite r w) = isLive s r ≡ true → r ≡ headOf s
 Placed s (DirectRead r number t o x) = Unit {0}
-Placed s (NormalRead r o x) = isLive s r ≡ true → r ≡ tailOf s
+Placed s (NormalRead r o x c) = isLive s r ≡ true → r ≡ tailOf s
 Placed s (Completion x t) = Unit {0}
-Placed s (Reply o v) = Unit {0}
+Placed s (Reply o v c f) = Unit {0}
 Placed s Unknown = Unit {0}
 
 -- the operation is on objects that there are
@@ -102,7 +102,7 @@ madeVisible m k = entries (k .store) (tailApplied m) (tailApplied k - tailApplie
 
 abbrev pub finishing : Answer → History → List Entry → List Entry
 finishing Done h es = es
-finishing (Finished o v) h es = finishOrder h o (v ∷ []) es
+finishing (Finished o v f) h es = finishOrder h o (v ∷ []) es
 finishing (Refused r) h es = es
 
 -- the order one step later: a write goes to its end when it becomes visible, a read that finishes to the last place at which its object holds its value

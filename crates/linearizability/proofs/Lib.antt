@@ -15,3 +15,4 @@ pub mod Listing
 pub mod Limits
 pub mod Opens
 pub mod Runs
+pub mod Freshness

@@ -10,8 +10,8 @@ use Rattle.history.proofs.Entries.{Entry}
 use Rattle.switch.specs.Numbers.{counterIn}
 use Rattle.operations.specs.{openCells, openCount, lastGiven}
 use Rattle.operations.proofs.Laws as operations
-use Rattle.replicas.specs.Store.{appliedBy}
-use Rattle.replicas.specs.Chain.{isLive}
+use Rattle.store.specs.{appliedBy}
+use Rattle.chain.specs.{isLive}
 use Rattle.replicas.specs.Replicas.{linkedWrites}
 use Rattle.waiting.specs.declared.Packet.{Packet}
 use Rattle.waiting.specs.Waiting.{held}

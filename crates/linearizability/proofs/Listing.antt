@@ -18,9 +18,10 @@ use Rattle.lists.specs.{moves, indexOf, listOf}
 use Rattle.operations.specs.{openCount, openNumbers, lastGiven, noneOpen, openPlace, isOpen, roomToOpen, opening, closing}
 use Rattle.stamp.specs.Stamps.{stampOf, numberOf, counterOf, isAbove, largerOf}
 use Rattle.switch.specs.Numbers.{numberIn, counterIn, committedIn, directIn, slotObject, slotStamp}
-use Rattle.switch.specs.DirtySet.{firstSlot, secondSlot, thirdSlot, holdsObject, countsAbove, isFree, holdsAbove, freeSlot, slotFor, markAbove, lookedUp, nextStamp, marking, canMark, marked, stampFor, isCompleted, clearedAt, completed, newSwitch}
-use Rattle.replicas.specs.Chain
-use Rattle.replicas.specs.Store
+use Rattle.slots.specs.{firstSlot, secondSlot, thirdSlot, holdsObject, countsAbove, isFree, holdsAbove, isCompleted}
+use Rattle.switch.specs.DirtySet.{freeSlot, slotFor, markAbove, lookedUp, nextStamp, marking, canMark, marked, stampFor, clearedAt, completed, newSwitch}
+use Rattle.chain.specs as Chain
+use Rattle.store.specs as Store
 use Rattle.replicas.specs.Links
 use Rattle.replicas.specs.Replicas
 use Rattle.linearizability.specs.Run.{historyOf}

@@ -22,7 +22,7 @@ use Rattle.operations.specs.{openCount, isOpen, lastGiven, roomToOpen, noneOpen
 use Rattle.operations.proofs.Laws.{count-none, none-open, count-opening, opened-now, still-open, open-before, room-below, full-count, count-closing, others-stay-open, open-after-closing}
 use Rattle.switch.specs.Numbers.{numberIn, directIn}
 use Rattle.switch.specs.DirtySet.{lookedUp, stampFor, marked}
-use Rattle.replicas.specs.Chain.{isLive, tailOf, allPermit}
+use Rattle.chain.specs.{isLive, tailOf, allPermit}
 use Rattle.replicas.specs.Replicas.{accepts, answersDirect}
 use Rattle.waiting.specs.declared.Packet.{Packet}
 use Rattle.waiting.specs.Waiting.{lookAt, noneWait}
@@ -115,9 +115,9 @@ module _ (g : Given) (h : History) (l : List ℕ) where
   change-message at choice (DirectRead r number t p x) =
       let P : Decision → Type 0 = Decides (Deliver at choice) in
       both P (isLive (g .store) r) (both P (answersDirect (g .store) r x number t) (stays refl refl refl) (stays refl refl refl)) (stays refl refl refl)
-  change-message at choice (NormalRead r p x) = both (Decides (Deliver at choice)) (isLive (g .store) r) (stays refl refl refl) (stays refl refl refl)
+  change-message at choice (NormalRead r p x c) = both (Decides (Deliver at choice)) (isLive (g .store) r) (stays refl refl refl) (stays refl refl refl)
   change-message at choice (Completion x t) = stays refl refl refl
-  change-message at choice (Reply p v) =
+  change-message at choice (Reply p v c f) =
       by-test (Opens (Deliver at choice)) (isOpen (g .opens) p) _ _ (λ still. finishes p v still refl refl refl) (λ closed. stays refl refl refl)
   change-message at choice Unknown = stays refl refl refl
 

@@ -1,6 +1,6 @@
 -- The order as a function of what a step shows and of the history: a write that becomes visible goes to its end, a read that finishes to the last place
 -- at which its objects hold the values that it gave.
-use mathlib.Core.Path.{_≡_, refl, ap, subst}
+use mathlib.Core.Path.{_≡_, refl, sym, ap, subst}
 use mathlib.Core.Logic.{_⊎_, inl, inr}
 use mathlib.Core.Bool.{true, false, cond}
 use mathlib.Core.List.{List, [], _∷_, _++_, append-nil}
@@ -11,11 +11,13 @@ use lib.Seq.{slice}
 use Rattle.history.specs.History.{_∈_, Kind, reads, writes, History, begun, finished}
 use Rattle.history.proofs.Lists.{here, there, no-member, in-right, inserted}
 use Rattle.history.proofs.Tests.{by-test, eqb-true, eqb-false}
-use Rattle.history.proofs.Entries.{Entry, Unfinished}
+use Rattle.history.proofs.Entries.{Entry, Unfinished, InOrder}
 use Rattle.history.proofs.Growth.{older, begun-not-finished, begun-at, unfinished-read-out}
+use Rattle.history.proofs.Readable.{Readable, placed}
 use Rattle.history.proofs.Place.{with-read, readable-last}
 use Rattle.history.proofs.Claim.{numbers, in-numbers, of-numbers}
-use Rattle.replicas.specs.declared.Write.{Write}
+use Rattle.store.specs.declared.Write.{Write}
+use Rattle.protocol.specs.Answers.{noFreshness}
 use Rattle.protocol.specs.declared.Message.{Message}
 use Rattle.protocol.specs.declared.Message.the-variants.{Completion, Reply}
 use Rattle.linearizability.proofs.Members.{has, has-true, has-false}
@@ -54,7 +56,7 @@ in-drop {A} {x} n l m = subst (λ (k : List A). x ∈ k) (take-append-drop n l) 
 
 -- what is sent when these writes become visible: nothing, or for one write a reply and a completion
 abbrev pub Sent : List Write → List Message → Type 0
-Sent ws ms = (ms ≡ []) ⊎ ((w : Write) × (ws ≡ w ∷ []) × (ms ≡ Reply (w .operation) (w .value) ∷ Completion (w .object) (w .stamp) ∷ []))
+Sent ws ms = (ms ≡ []) ⊎ ((w : Write) × (ws ≡ w ∷ []) × (ms ≡ Reply (w .operation) (w .value) 0 noFreshness ∷ Completion (w .object) (w .stamp) ∷ []))
 
 module _ {h : History} {es : List Entry} {issued log : List Write} {n : ℕ} {messages : List Message} {c : ℕ} (k : Core h es issued log n messages c) where
   -- the tail has applied the first n' writes, and sends for the new ones
@@ -64,22 +66,28 @@ module _ {h : History} {es : List Entry} {issued log : List Write} {n : ℕ} {me
   core-outcome {n'} g l ms (inr t) =
       rw (t .2) (core-sent (core-reveal k n' g l) (t .0) (in-drop n (take n' log) (rw (t .1) (here refl))) (rw (t .1) (inserted es (entry (t .0)) [])))
 
-  -- an operation that has been answered finishes
-  pub core-finishes : (o v : ℕ) → Answered h es o v → Unfinished h o → Core (finished o (v ∷ []) ∷ h) (finishOrder h o (v ∷ []) es) issued log n messages c
+  -- an operation that is in the order finishes, and the order stays
+  finish-in : (o : ℕ) (vs : List ℕ) → InOrder es o vs → finishOrder h o vs es ≡ es
   unfolding finishOrder
-  core-finishes o v f w = by-test Finishes (has o (numbers es)) _ _ (inside f) (outside f)
-    where
-      Finishes : List Entry → Type 0
-      Finishes l = Core (finished o (v ∷ []) ∷ h) l issued log n messages c
+  finish-in o vs i = by-test (λ (l : List Entry). l ≡ es) (has o (numbers es)) _ _
+      (λ e. refl)
+      (λ e. absurd (has-false o (numbers es) e (subst (λ (p : ℕ). p ∈ numbers es) (i .2) (in-numbers (i .1)))))
 
-      inside : Answered h es o v → has o (numbers es) ≡ true → Finishes es
-      inside (inl f) e = core-finish k f
-      inside (inr f) e =
-          let t = of-numbers es (has-true o (numbers es) e) in
-          absurd (unfinished-read-out (k .visible .linearizes) (f .1) w (t .0) (t .1) (t .2))
+  -- a read that has been answered finishes, and is put where it can stand
+  pub finish-read : (o : ℕ) (xs vs : List ℕ) {was : List Entry} → begun o (reads xs) ∈ h → Unfinished h o → Readable h es o xs vs was
+      → (r : Readable h es o xs vs was) × (finishOrder h o vs es ≡ placed r)
+  unfolding finishOrder
+  finish-read o xs vs b w d =
+      let r = readable-last d in (
+        r .0,
+        by-test (λ (l : List Entry). l ≡ placed (r .0)) (has o (numbers es)) _ _
+            (λ e.
+            let t = of-numbers es (has-true o (numbers es) e) in
+            absurd (unfinished-read-out (k .visible .linearizes) b w (t .0) (t .1) (t .2)))
+            (λ e. rw (objects-of h (k .visible .linearizes .one-kind) b) (sym (r .1))),
+      )
 
-      outside : Answered h es o v → has o (numbers es) ≡ false → Finishes (with-read o (objectsOf o h) (v ∷ []) es)
-      outside (inl f) e = absurd (has-false o (numbers es) e (subst (λ (p : ℕ). p ∈ numbers es) (f .2) (in-numbers (f .1))))
-      outside (inr f) e =
-          let r = readable-last (f .2) in
-          rw (objects-of h (k .visible .linearizes .one-kind) (f .1), ← (r .1)) (core-reply k (f .1) w (r .0))
+  -- an operation that has been answered finishes
+  pub core-finishes : (o v d s : ℕ) → Answered h es o v d s → Unfinished h o → Core (finished o (v ∷ []) ∷ h) (finishOrder h o (v ∷ []) es) issued log n messages c
+  core-finishes o v d s (inl f) w = rw (finish-in o (v ∷ []) (f .0)) (core-finish k (f .0))
+  core-finishes o v d s (inr f) w = let r = finish-read o (f .0 ∷ []) (v ∷ []) (f .1) w (f .3) in rw (r .1) (core-reply k (f .1) w (r .0))

@@ -9,13 +9,18 @@ use Rattle.history.proofs.Lists.{here, there, no-member, only-member, cases-con
 use Rattle.history.proofs.Entries.{Entry, InOrder}
 use Rattle.history.proofs.Growth.{begun-at}
 use Rattle.history.proofs.Readable.{Readable}
-use Rattle.replicas.specs.declared.Write.{Write}
+use Rattle.store.specs.declared.Write.{Write}
+use Rattle.protocol.specs.Answers.{newRead}
 use Rattle.protocol.specs.declared.Message.{Message}
 use Rattle.protocol.specs.declared.Message.the-variants.{UnstampedWrite, SwitchRead, StampedWrite, DirectRead, NormalRead, Completion, Reply, Unknown}
+use Rattle.linearizability.proofs.Visible.{Wrote}
 
--- operation o is in the order with the value v, or is a read that can be put into it with the value v
-abbrev pub Answered : History → List Entry → ℕ → ℕ → Type 0
-Answered h es o v = InOrder es o (v ∷ []) ⊎ ((x : ℕ) × (begun o (reads (x ∷ [])) ∈ h) × Readable h es o (x ∷ []) (v ∷ []))
+-- a reply of operation o, with value v, carried stamp c and freshness f: o is in the order with that value, and the reply is not `new`; or it is a read that can be put into
+-- the order with that value, and if the reply is `new`, the order had a write from c on when the read was answered
+abbrev pub Answered : History → List Entry → ℕ → ℕ → ℕ → ℕ → Type 0
+Answered h es o v c f =
+    (InOrder es o (v ∷ []) × (f ≢ newRead))
+    ⊎ ((x : ℕ) × (begun o (reads (x ∷ [])) ∈ h) × (was : List Entry) × Readable h es o (x ∷ []) (v ∷ []) was × (f ≡ newRead → Wrote x c was))
 
 -- what holds of a message; t is the tail's highest stamp
 abbrev pub Fine : History → List Entry → List Write → ℕ → Message → Type 0
@@ -23,9 +28,9 @@ Fine h es issued t (UnstampedWrite o x v) = begun o (writes x v) ∈ h
 Fine h es issued t (SwitchRead o x) = begun o (reads (x ∷ [])) ∈ h
 Fine h es issued t (StampedWrite r w) = w ∈ issued
 Fine h es issued t (DirectRead r number c o x) = (begun o (reads (x ∷ [])) ∈ h) × (c ≤ t)
-Fine h es issued t (NormalRead r o x) = begun o (reads (x ∷ [])) ∈ h
+Fine h es issued t (NormalRead r o x c) = begun o (reads (x ∷ [])) ∈ h
 Fine h es issued t (Completion x s) = s ≤ t
-Fine h es issued t (Reply o v) = Answered h es o v
+Fine h es issued t (Reply o v c f) = Answered h es o v c f
 Fine h es issued t Unknown = Unit {0}
 
 -- the message is the unstamped write of operation p
@@ -34,9 +39,9 @@ Asks (UnstampedWrite o x v) p = o ≡ p
 Asks (SwitchRead o x) p = ⊥
 Asks (StampedWrite r w) p = ⊥
 Asks (DirectRead r number c o x) p = ⊥
-Asks (NormalRead r o x) p = ⊥
+Asks (NormalRead r o x c) p = ⊥
 Asks (Completion x s) p = ⊥
-Asks (Reply o v) p = ⊥
+Asks (Reply o v c f) p = ⊥
 Asks Unknown p = ⊥
 
 -- two messages are not the unstamped writes of one operation
@@ -62,12 +67,13 @@ pub record Grows (h : History) (es : List Entry) (issued : List Write) (t : ℕ)
   pub entries : (e : Entry) → e ∈ es → e ∈ es'
   pub issues : (w : Write) → w ∈ issued → w ∈ issued'
   pub tops : t ≤ t'
-  pub reading : (o : ℕ) (xs vs : List ℕ) → Begun h o → Readable h es o xs vs → Readable h' es' o xs vs
+  pub reading : (o : ℕ) (xs vs : List ℕ) (was : List Entry) → Begun h o → Readable h es o xs vs was → Readable h' es' o xs vs was
 
 module _ {h : History} {es : List Entry} {issued : List Write} {t : ℕ} where
   -- an event
   pub grows-event : {e : Event} {es' : List Entry} → ((f : Entry) → f ∈ es → f ∈ es')
-      → ((o : ℕ) (xs vs : List ℕ) → Begun h o → Readable h es o xs vs → Readable (e ∷ h) es' o xs vs) → Grows h es issued t (e ∷ h) es' issued t
+      → ((o : ℕ) (xs vs : List ℕ) (was : List Entry) → Begun h o → Readable h es o xs vs was → Readable (e ∷ h) es' o xs vs was)
+      → Grows h es issued t (e ∷ h) es' issued t
   grows-event old r = record { events = λ f i. there i; entries = old; issues = λ w i. i; tops = omega arith; reading = r }
 
   -- what holds of a message stays true
@@ -77,10 +83,10 @@ module _ {h : History} {es : List Entry} {issued : List Write} {t : ℕ} where
   fine-grows g (SwitchRead o x) f = g .events _ f
   fine-grows g (StampedWrite r w) f = g .issues w f
   fine-grows g (DirectRead r number c o x) f = (g .events _ (f .0), omega (arith, g .tops, f .1))
-  fine-grows g (NormalRead r o x) f = g .events _ f
+  fine-grows g (NormalRead r o x c) f = g .events _ f
   fine-grows g (Completion x s) f = omega (arith, g .tops, f)
-  fine-grows g (Reply o v) (inl f) = inl (f .0, g .entries (f .0) (f .1), f .2, f .3)
-  fine-grows g (Reply o v) (inr f) = inr (f .0, g .events _ (f .1), g .reading o (f .0 ∷ []) (v ∷ []) (reads (f .0 ∷ []), f .1) (f .2))
+  fine-grows g (Reply o v c s) (inl f) = let i = f .0 in inl ((i .0, g .entries (i .0) (i .1), i .2, i .3), f .1)
+  fine-grows g (Reply o v c s) (inr f) = inr (f .0, g .events _ (f .1), f .2, g .reading o (f .0 ∷ []) (v ∷ []) (f .2) (reads (f .0 ∷ []), f .1) (f .3), f .4)
   fine-grows g Unknown f = tt
 
   -- what holds of the waiting messages stays true
@@ -94,9 +100,9 @@ module _ {h : History} {es : List Entry} {issued : List Write} {t : ℕ} where
   packets-begun p (SwitchRead q x) i a = absurd a
   packets-begun p (StampedWrite r w) i a = absurd a
   packets-begun p (DirectRead r number c q x) i a = absurd a
-  packets-begun p (NormalRead r q x) i a = absurd a
+  packets-begun p (NormalRead r q x c) i a = absurd a
   packets-begun p (Completion x s) i a = absurd a
-  packets-begun p (Reply q v) i a = absurd a
+  packets-begun p (Reply q v c f) i a = absurd a
   packets-begun p Unknown i a = absurd a
 
   -- ---- messages leave the list and join it
@@ -155,7 +161,7 @@ packets-stamp {h} {es} {issued} {t} a b w r p = packets-add (a ++ b) (StampedWri
     rest = packets-lose a asked b p
 
     longer : Grows h es issued t h es (issued ++ w ∷ []) t
-    longer = record { events = λ e i. i; entries = λ e i. i; issues = λ u i. in-left (w ∷ []) i; tops = omega arith; reading = λ o xs vs n d. d }
+    longer = record { events = λ e i. i; entries = λ e i. i; issues = λ u i. in-left (w ∷ []) i; tops = omega arith; reading = λ o xs vs was n d. d }
 
 -- ---- how many unstamped writes wait
 
@@ -165,9 +171,9 @@ unstampedOne (UnstampedWrite o x v) = 1
 unstampedOne (SwitchRead o x) = 0
 unstampedOne (StampedWrite r w) = 0
 unstampedOne (DirectRead r number t o x) = 0
-unstampedOne (NormalRead r o x) = 0
+unstampedOne (NormalRead r o x c) = 0
 unstampedOne (Completion x t) = 0
-unstampedOne (Reply o v) = 0
+unstampedOne (Reply o v c f) = 0
 unstampedOne Unknown = 0
 
 -- how many unstamped writes a list of messages has
@@ -198,7 +204,7 @@ asks-none (UnstampedWrite o x v) n = absurd (n o refl)
 asks-none (SwitchRead o x) n = refl
 asks-none (StampedWrite r w) n = refl
 asks-none (DirectRead r number t o x) n = refl
-asks-none (NormalRead r o x) n = refl
+asks-none (NormalRead r o x c) n = refl
 asks-none (Completion x t) n = refl
-asks-none (Reply o v) n = refl
+asks-none (Reply o v c f) n = refl
 asks-none Unknown n = refl

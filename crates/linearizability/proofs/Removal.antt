@@ -5,9 +5,9 @@ use mathlib.Core.List.{List}
 use Prim.Native.Nat.{ℕ, _+_, _-_, _≤_, _<_}
 use native.Mathlib.Decide.{decLt}
 use native.Mathlib.Omega.{arith}
-use Rattle.replicas.specs.Store.{liveCount}
-use Rattle.replicas.specs.Chain.{chainPlace, isLive, memberAt, headOf, tailOf, removed}
-use Rattle.replicas.proofs.Members.{place-below, place-at, head-is, tail-is}
+use Rattle.store.specs.{liveCount}
+use Rattle.chain.specs.{chainPlace, isLive, memberAt, headOf, tailOf, removed}
+use Rattle.chain.proofs.Members.{place-below, place-at, head-is, tail-is}
 use Rattle.replicas.proofs.Cells.{SizedStore}
 use Rattle.replicas.proofs.Shape.{count-removed, member-removed-before, member-removed-behind}
 use Rattle.replicas.proofs.Descending.{Descending}
@@ -53,9 +53,9 @@ module _ (s : List ℕ) (z : SizedStore s) (d : Descending s) (r : ℕ) (live : 
       let e = p (removed-live s r a z live l) in
       e ∙ sym (head-stays (subst (λ (q : ℕ). isLive (removed s r) q ≡ true) e l))
   placed-removed (DirectRead a number t o x) p = p
-  placed-removed (NormalRead a o x) p = λ l.
+  placed-removed (NormalRead a o x c) p = λ l.
       let e = p (removed-live s r a z live l) in
       e ∙ sym (tail-stays (subst (λ (q : ℕ). isLive (removed s r) q ≡ true) e l))
   placed-removed (Completion x t) p = p
-  placed-removed (Reply o v) p = p
+  placed-removed (Reply o v c f) p = p
   placed-removed Unknown p = p

@@ -16,8 +16,8 @@ use Rattle.history.proofs.Entries.{Entry, Unfinished}
 use Rattle.history.proofs.Growth.{begun-not-finished}
 use Rattle.operations.specs.{isOpen, lastGiven, roomToOpen, opening, closing}
 use Rattle.operations.proofs.Laws.{last-opening, open-before, last-closing, open-after-closing}
-use Rattle.replicas.specs.declared.Write.{Write}
-use Rattle.replicas.specs.Chain.{chainPlace}
+use Rattle.store.specs.declared.Write.{Write}
+use Rattle.chain.specs.{chainPlace}
 use Rattle.replicas.specs.Replicas.{accepts}
 use Rattle.replicas.specs.Links.{allLinks}
 use Rattle.replicas.proofs.Cells.{SizedStore}

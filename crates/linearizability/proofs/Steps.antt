@@ -21,14 +21,15 @@ use Rattle.switch.specs.DirtySet.{newSwitch}
 use Rattle.switch.proofs.Laws.{sized-new, new-counter, new-committed}
 use Rattle.operations.specs.{isOpen, lastGiven, roomToOpen, opening, closing}
 use Rattle.operations.proofs.Laws.{sized-opening, last-opening, open-before, once-opening, last-closing}
-use Rattle.replicas.specs.declared.Write.{Write}
-use Rattle.replicas.specs.Store.{members, liveCount}
-use Rattle.replicas.specs.Chain.{isLive, tailOf, permitting, removed}
+use Rattle.store.specs.declared.Write.{Write}
+use Rattle.store.specs.{members, liveCount}
+use Rattle.chain.specs.{isLive, tailOf, permitting, removed}
 use Rattle.replicas.specs.Replicas.{applying, pending, oldest}
 use Rattle.replicas.proofs.Cells.{members-applying, members-permitting}
 use Rattle.waiting.specs.declared.Packet.{Packet}
 use Rattle.waiting.specs.Waiting.{held, lookAt, edited}
 use Rattle.waiting.proofs.Laws as waiting
+use Rattle.protocol.specs.Answers.{noFreshness}
 use Rattle.protocol.specs.declared.Decision.{Decision}
 use Rattle.protocol.specs.declared.Message.{Message}
 use Rattle.protocol.specs.declared.Message.the-variants.{SwitchRead, Completion, Reply}
@@ -245,18 +246,18 @@ module _ {m : Machine} {h : History} {es : List Entry} (g : Good m h es) (r : �
       let s : Shows store (g .log) (suc (g .n)) = shows-advanced-tail (g .shown) r live p (g .core .visible .rising) (log-small g) last in
       let long : suc (g .n) ≤ length (g .log) = oldest-tail-below (g .shown) r live p last in
       let one : slice (g .n) (suc (g .n)) (g .log) ≡ write ∷ [] = visible-advanced-tail (g .shown) r live p last in
-      let sent : List Message = Reply (write .operation) (write .value) ∷ Completion (write .object) (write .stamp) ∷ [] in
+      let sent : List Message = Reply (write .operation) (write .value) 0 noFreshness ∷ Completion (write .object) (write .stamp) ∷ [] in
       let c = core-outcome (g .core) {n' = suc (g .n)} (omega arith) long sent (inr (write, one, refl)) in
       let shown : madeVisible m (done m (changingStore (givenBy m) (stored (deciding (sending write)) store))) ≡ slice (g .n) (suc (g .n)) (g .log) =
       rw (s .tail-has, g .shown .tail-has) (visible-advanced (g .shown) r live p (suc (g .n)) (omega arith) long) in
       rw shown
       (good-of (g .issued) (g .log) (suc (g .n)) (messages (m .waiting) ++ sent)
-      (added-two (m .waiting) wide (g .exact) (Reply (write .operation) (write .value)) (Completion (write .object) (write .stamp)) roomy) c s
+      (added-two (m .waiting) wide (g .exact) (Reply (write .operation) (write .value) 0 noFreshness) (Completion (write .object) (write .stamp)) roomy) c s
       (λ q i. placed-same (m .store) store (members-applying (m .store) r write) q
       (elim (cases-append (messages (m .waiting)) i) [ inl j ↦ g .posted q j | inr j ↦ answer q j ]))
       (g .books) (omega (arith, g .counted, unstamped-append (messages (m .waiting)) sent)) (g .switch-sized) (waiting.exact-edited (m .waiting) _ (g .exact)))
     where
-      answer : (q : Message) → q ∈ Reply (write .operation) (write .value) ∷ Completion (write .object) (write .stamp) ∷ [] → Placed (m .store) q
+      answer : (q : Message) → q ∈ Reply (write .operation) (write .value) 0 noFreshness ∷ Completion (write .object) (write .stamp) ∷ [] → Placed (m .store) q
       answer q j = elim (cases-cons j) [ inl e ↦ rw e tt | inr i ↦ rw (only-member i) tt ]
 
   good-advance : waiting.Roomy (m .waiting) → Moves (advancing (m .store) (held (m .waiting)) r)

@@ -9,16 +9,16 @@ use lib.Dec.{eqb}
 use lib.ListN.{length, take, drop, getD, length-append, length-take, take-append-drop}
 use lib.Seq.{take-append-le, take-suc, take-take, split-at}
 use Rattle.history.specs.History.{_∈_, Kind, reads, writes, Event, History, begun, finished}
-use Rattle.history.proofs.Lists.{here, there, no-member, only-member, cases-append, in-left, cases-insert, inserted, in-take, in-getD, Pairwise, pairwise-snoc, pairwise-front, pairwise-cross, same-member}
+use Rattle.history.proofs.Lists.{here, there, no-member, only-member, cases-append, in-left, in-right, in-insert, cases-insert, inserted, in-take, in-getD, Pairwise, pairwise-snoc, pairwise-front, pairwise-cross, same-member}
 use Rattle.history.proofs.Entries.{Entry, read-entry, write-entry, Store, empty, after, after-append, after-read, New, Unfinished, IsWrite, InOrder, Linearizes, linearizes-nothing}
 use Rattle.history.proofs.Growth.{begun-at, linearizes-begin, linearizes-visible, linearizes-finish}
 use Rattle.history.proofs.Readable.{Readable, placed, linearizes-placed}
-use Rattle.log.proofs.Log.{values, top, Rising, table-append, rising-append, rising-take, below-top}
-use Rattle.replicas.specs.declared.Write.{Write}
+use Rattle.log.proofs.Log.{values, stamps, top, Rising, table-append, rising-append, rising-take, below-top, stamp-last, stamp-of}
+use Rattle.store.specs.declared.Write.{Write}
 
--- a write, as it stands in the order
+-- a write, as it stands in the order, with its stamp
 abbrev pub entry : Write → Entry
-entry w = write-entry (w .operation) (w .object) (w .value)
+entry w = write-entry (w .operation) (w .object) (w .value) (w .stamp)
 
 -- the order when these writes become visible one after the other
 abbrev pub shows : List Entry → List Write → List Entry
@@ -33,13 +33,22 @@ Meant h w = begun (w .operation) (writes (w .object) (w .value)) ∈ h
 abbrev pub Distinct : Write → Write → Type 0
 Distinct w u = w .operation ≢ u .operation
 
+-- the entry is a write to x with the stamp c or one above it
+abbrev pub WritesFrom : ℕ → ℕ → Entry → Type 0
+WritesFrom x c e = (v : ℕ) × (e .kind ≡ writes x v) × (c ≤ e .stamp)
+
+-- one of the entries is such a write
+abbrev pub Wrote : ℕ → ℕ → List Entry → Type 0
+Wrote x c es = (e : Entry) × (e ∈ es) × WritesFrom x c e
+
 -- issued are all writes that were ever stamped, log are those that the head has applied, and the tail has applied the first n of these
 pub record Visible (h : History) (es : List Entry) (issued log : List Write) (n : ℕ) : Type 0 where
   pub linearizes : Linearizes h es
   -- the tail's values are what the order leaves
   pub store : (x : ℕ) → after empty es x ≡ values (take n log) x
-  -- the writes of the order are the tail's
-  pub shown : (e : Entry) → e ∈ es → IsWrite (e .kind) → (w : Write) × (w ∈ take n log) × (w .operation ≡ e .operation)
+  -- the writes of the order are the tail's, and the tail's are in the order
+  pub shown : (e : Entry) → e ∈ es → IsWrite (e .kind) → (w : Write) × (w ∈ take n log) × (entry w ≡ e)
+  pub ordered : (w : Write) → w ∈ take n log → entry w ∈ es
   -- the stamps of the log rise
   pub rising : Rising 0 log
   -- the tail has applied a front part of it
@@ -57,6 +66,7 @@ visible-start = record {
   linearizes = linearizes-nothing;
   store = λ x. refl;
   shown = λ e i k. absurd (no-member i);
+  ordered = λ w i. absurd (no-member i);
   rising = tt;
   fits = omega arith;
   meant = λ w i. absurd (no-member i);
@@ -68,13 +78,14 @@ visible-start = record {
 module _ {h : History} {es : List Entry} {issued log : List Write} {n : ℕ} (g : Visible h es issued log n) where
   -- ---- the history grows
 
-  -- an event after which the order leaves the same values and has no new write
+  -- an event after which the order leaves the same values, has no new write, and has lost nothing
   visible-event : {e : Event} {es' : List Entry} → Linearizes (e ∷ h) es' → ((x : ℕ) → after empty es' x ≡ after empty es x)
-      → ((f : Entry) → f ∈ es' → IsWrite (f .kind) → f ∈ es) → Visible (e ∷ h) es' issued log n
-  visible-event l same old = record {
+      → ((f : Entry) → f ∈ es' → IsWrite (f .kind) → f ∈ es) → ((f : Entry) → f ∈ es → f ∈ es') → Visible (e ∷ h) es' issued log n
+  visible-event l same old all = record {
     linearizes = l;
     store = λ x. same x ∙ g .store x;
     shown = λ f i k. g .shown f (old f i k) k;
+    ordered = λ w i. all (entry w) (g .ordered w i);
     rising = g .rising;
     fits = g .fits;
     meant = λ u m. there (g .meant u m);
@@ -85,14 +96,14 @@ module _ {h : History} {es : List Entry} {issued log : List Write} {n : ℕ} (g 
 
   -- an operation begins
   pub visible-begin : (o : ℕ) (k : Kind) → New h o → Visible (begun o k ∷ h) es issued log n
-  visible-begin o k w = visible-event (linearizes-begin (g .linearizes) w) (λ x. refl) (λ f i j. i)
+  visible-begin o k w = visible-event (linearizes-begin (g .linearizes) w) (λ x. refl) (λ f i j. i) (λ f i. i)
 
   -- an operation of the order finishes
   pub visible-finish : {o : ℕ} {vs : List ℕ} → InOrder es o vs → Visible (finished o vs ∷ h) es issued log n
-  visible-finish i = visible-event (linearizes-finish (g .linearizes) i) (λ x. refl) (λ f j k. j)
+  visible-finish i = visible-event (linearizes-finish (g .linearizes) i) (λ x. refl) (λ f j k. j) (λ f j. j)
 
   -- an answered read finishes, and takes its place in the order
-  pub visible-reply : {o : ℕ} {xs vs : List ℕ} → begun o (reads xs) ∈ h → Unfinished h o → (r : Readable h es o xs vs)
+  pub visible-reply : {o : ℕ} {xs vs : List ℕ} {was : List Entry} → begun o (reads xs) ∈ h → Unfinished h o → (r : Readable h es o xs vs was)
       → Visible (finished o vs ∷ h) (placed r) issued log n
   visible-reply {o} {xs} {vs} b w r =
       visible-event (linearizes-placed r (g .linearizes) b w)
@@ -101,6 +112,7 @@ module _ {h : History} {es : List Entry} {issued log : List Write} {n : ℕ} (g 
         | inl z ↦ absurd (subst (λ (e : Entry). IsWrite (e .kind)) z k)
         | inr j ↦ subst (λ (l : List Entry). f ∈ l) (sym (r .cut)) j
       ])
+      (λ f i. in-insert (r .front) (read-entry o xs vs) (r .back) (subst (λ (l : List Entry). f ∈ l) (r .cut) i))
 
   -- ---- the writes
 
@@ -110,6 +122,7 @@ module _ {h : History} {es : List Entry} {issued log : List Write} {n : ℕ} (g 
     linearizes = g .linearizes;
     store = g .store;
     shown = g .shown;
+    ordered = g .ordered;
     rising = g .rising;
     fits = g .fits;
     meant = λ u m. elim (cases-append issued m) [ inl p ↦ g .meant u p | inr p ↦ subst (Meant h) (sym (only-member p)) b ];
@@ -125,6 +138,7 @@ module _ {h : History} {es : List Entry} {issued log : List Write} {n : ℕ} (g 
     linearizes = g .linearizes;
     store = λ x. rw same (g .store x);
     shown = λ e j k. rw same (g .shown e j k);
+    ordered = rw same (g .ordered);
     rising = r;
     fits = f;
     meant = g .meant;
@@ -151,6 +165,27 @@ module _ {h : History} {es : List Entry} {issued log : List Write} {n : ℕ} (g 
       visible-log (take-take n m log k) (rising-take 0 m log (g .rising)) (rw length-take (let f = g .fits in omega arith))
       (λ u i. g .log-issued u (in-take m log i)) (pairwise-front Distinct (take m log) (drop m log) (rw take-append-drop (g .log-once)))
 
+  -- ---- the stamps of an object
+
+  -- where x's stamp is not below c, the order has a write from c on
+  pub visible-wrote : (x c : ℕ) → 0 < c → c ≤ stamps (take n log) x → Wrote x c es
+  visible-wrote x c some low = elim (stamp-of empty (take n log) x) [
+    | inl e ↦ absurd (omega (arith, e, some, low))
+    | inr t ↦ (entry (t .0), g .ordered (t .0) (t .1), (t .0 .value, ap (λ (y : ℕ). writes y (t .0 .value)) (t .2), omega (arith, t .3, low)))
+  ]
+
+  -- where it is below c, the order has none
+  pub visible-unwritten : (x c : ℕ) → stamps (take n log) x < c → Wrote x c es → ⊥
+  visible-unwritten x c high (e, i, (v, k, low)) =
+      let s = g .shown e i (subst IsWrite (sym k) tt) in
+      let object : s .0 .object ≡ x = same (ap (λ (f : Entry). f .kind) (s .2) ∙ k) in
+      let stamp : s .0 .stamp ≡ e .stamp = ap (λ (f : Entry). f .stamp) (s .2) in
+      let last = stamp-last 0 empty (take n log) (s .0) (rising-take 0 n log (g .rising)) (s .1) in
+      omega (arith, high, low, stamp, last, ap (stamps (take n log)) object)
+    where
+      same : {y u z : ℕ} → writes y u ≡ writes x z → y ≡ x
+      same q = cc
+
   -- ---- the next write becomes visible
 
   module _ (w : Write) (rest : List Write) (cut : log ≡ take n log ++ w ∷ rest) where
@@ -161,7 +196,7 @@ module _ {h : History} {es : List Entry} {issued log : List Write} {n : ℕ} (g 
         let k : e .kind ≡ writes (w .object) (w .value) =
         g .linearizes .one-kind (w .operation) (e .kind) _ (begun-at q (g .linearizes .recorded e i .0)) (g .meant w (g .log-issued w m)) in
         let s = g .shown e i (subst IsWrite (sym k) tt) in
-        pairwise-cross Distinct (take n log) (w ∷ rest) (subst (Pairwise Distinct) cut (g .log-once)) (s .1) (here refl) (s .2 ∙ q)
+        pairwise-cross Distinct (take n log) (w ∷ rest) (subst (Pairwise Distinct) cut (g .log-once)) (s .1) (here refl) (ap (λ (f : Entry). f .operation) (s .2) ∙ q)
 
     -- and it has not finished
     pub hidden-unfinished : Unfinished h (w .operation)
@@ -175,14 +210,18 @@ module _ {h : History} {es : List Entry} {issued log : List Write} {n : ℕ} (g 
       let cut : log ≡ take n log ++ w ∷ rest = split-at log n d k in
       let grown : take (suc n) log ≡ take n log ++ w ∷ [] = take-suc log n d k in
       record {
-        linearizes = linearizes-visible (g .linearizes) (g .meant w (g .log-issued w (in-getD log n d k))) (hidden-unfinished w rest cut) (hidden w rest cut);
+        linearizes = linearizes-visible (g .linearizes) (w .stamp) (g .meant w (g .log-issued w (in-getD log n d k))) (hidden-unfinished w rest cut) (hidden w rest cut);
         store = λ x.
             ap (λ (s : Store). s x) (after-append empty es (entry w ∷ []))
             ∙ ap (λ (z : ℕ). cond (eqb (w .object) x) (w .value) z) (g .store x)
             ∙ sym (ap (λ (l : List Write). values l x) grown ∙ ap (λ (s : Store). s x) (table-append (λ u. u .value) empty (take n log) (w ∷ [])));
         shown = λ e i j. elim (cases-append es i) [
           | inl p ↦ let s = g .shown e p j in (s .0, rw grown (in-left (w ∷ []) (s .1)), s .2)
-          | inr p ↦ (w, rw grown (inserted (take n log) w []), sym (ap (λ (f : Entry). f .operation) (only-member p)))
+          | inr p ↦ (w, rw grown (inserted (take n log) w []), sym (only-member p))
+        ];
+        ordered = λ u i. elim (cases-append (take n log) (subst (λ (l : List Write). u ∈ l) grown i)) [
+          | inl p ↦ in-left (entry w ∷ []) (g .ordered u p)
+          | inr p ↦ in-right es (here (ap entry (only-member p)))
         ];
         rising = g .rising;
         fits = k;

@@ -1,5 +1,5 @@
 -- The messages that wait, and what each edit of the waiting list does to them.
-use mathlib.Core.Path.{_≡_, refl, sym, ap, _∙_}
+use mathlib.Core.Path.{_≡_, refl, sym, ap, _∙_, subst}
 use mathlib.Core.Bool.{true, false}
 use mathlib.Core.List.{List, [], _∷_, _++_, map, append-nil}
 use Prim.Native.Nat.{ℕ, zero, suc, _+_, _-_, _≤_, _<_}
@@ -9,6 +9,8 @@ use lib.Seq.{split-at}
 use borrow.Author.Tests.{ltb-false}
 use Rattle.limits.specs as limits
 use Rattle.lists.specs.{without}
+use Rattle.history.specs.History.{_∈_}
+use Rattle.history.proofs.Lists.{inserted}
 use Rattle.waiting.specs.declared.Packet.{Packet}
 use Rattle.waiting.specs.declared.Edit.{Edit}
 use Rattle.waiting.specs.Waiting.{WaitingList, blank, waits, held, lookAt, added, edited}
@@ -25,9 +27,9 @@ message-packet (UnstampedWrite o x v) = refl
 message-packet (SwitchRead o x) = refl
 message-packet (StampedWrite r w) = refl
 message-packet (DirectRead r number t o x) = refl
-message-packet (NormalRead r o x) = refl
+message-packet (NormalRead r o x c) = refl
 message-packet (Completion x t) = refl
-message-packet (Reply o v) = refl
+message-packet (Reply o v c f) = refl
 message-packet Unknown = refl
 
 abbrev pub messages : WaitingList → List Message
@@ -68,6 +70,10 @@ pub record Stands (w : WaitingList) (at : ℕ) (p : Message) : Type 0 where
   pub roomy : Roomy w
   pub inside : at < held w
   pub split : messages w ≡ front at w ++ p ∷ back at w
+
+-- so it waits
+pub stands-in : {w : WaitingList} {at : ℕ} {p : Message} → Stands w at p → p ∈ messages w
+stands-in {w} {at} {p} i = subst (λ (l : List Message). p ∈ l) (sym (i .split)) (inserted (front at w) p (back at w))
 
 -- the message at a position
 pub at-position : (w : WaitingList) (at : ℕ) → Roomy w → at < held w → Stands w at (messageOf (lookAt (w .packets) at))

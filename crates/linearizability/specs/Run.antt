@@ -19,13 +19,13 @@ begunCount (finished o vs ∷ h) = begunCount h
 -- 'The k-th accepted begin starts operation k, with the kind, the object and a write's value as that step gives them. A refused begin starts nothing.'
 abbrev pub beginning : Kind → Answer → History → History
 beginning k Done h = begun (suc (begunCount h)) k ∷ h
-beginning k (Finished o v) h = begun (suc (begunCount h)) k ∷ h
+beginning k (Finished o v f) h = begun (suc (begunCount h)) k ∷ h
 beginning k (Refused r) h = h
 
 -- 'An operation finishes at the accepted deliver whose answer names it, with its value, as just finished.'
 abbrev pub ending : Answer → History → History
 ending Done h = h
-ending (Finished o v) h = finished o (v ∷ []) ∷ h
+ending (Finished o v f) h = finished o (v ∷ []) ∷ h
 ending (Refused r) h = h
 
 -- the history, one step later
@@ -56,7 +56,7 @@ historyOf n row xs = historyFrom (started n row) [] xs
 -- an accepted begin opens the operation that it starts
 abbrev pub openBegun : Answer → History → List ℕ → List ℕ
 openBegun Done h l = suc (begunCount h) ∷ l
-openBegun (Finished o v) h l = suc (begunCount h) ∷ l
+openBegun (Finished o v f) h l = suc (begunCount h) ∷ l
 openBegun (Refused r) h l = l
 
 -- the operation is open no more
@@ -66,13 +66,13 @@ openWithout o l = without l (indexOf l o)
 -- the operation that an answer names as just finished is open no more
 abbrev pub openEnded : Answer → List ℕ → List ℕ
 openEnded Done l = l
-openEnded (Finished o v) l = openWithout o l
+openEnded (Finished o v f) l = openWithout o l
 openEnded (Refused r) l = l
 
 -- nor is one that is given up, unless the step is refused
 abbrev pub openGivenUp : ℕ → Answer → List ℕ → List ℕ
 openGivenUp o Done l = openWithout o l
-openGivenUp o (Finished p v) l = openWithout o l
+openGivenUp o (Finished p v f) l = openWithout o l
 openGivenUp o (Refused r) l = l
 
 -- the open operations, one step later; h is the history before the step

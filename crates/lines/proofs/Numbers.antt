@@ -7,7 +7,7 @@ use native.Mathlib.Nat.{pow-suc}
 use native.Mathlib.Omega.{arith}
 use lib.Dec.{ltb}
 use lib.ListN.{length, getD, length-append, List·getD-append}
-use borrow.Author.Tests.{ltb-true, ltb-false}
+use borrow.Author.Tests.{ltb-true, ltb-false, lt-ltb}
 use Rattle.lines.specs.Lines.{digits, places, decimal}
 
 -- the number that digits spell, v standing before them
@@ -50,6 +50,13 @@ digits-length (suc k) n = simp (length-append, digits-length k (n / 10)) (omega 
 pub decimal-places : (n : ℕ) → length (decimal n) ≡ places n
 unfolding decimal
 decimal-places n = digits-length (places n) n
+
+-- a number of one digit
+pub decimal-one : (n : ℕ) → n < 10 → decimal n ≡ (48 + n) ∷ []
+unfolding decimal places digits
+decimal-one n h =
+    let rest : n % 10 ≡ n = omega arith in
+    rw (lt-ltb n 10 h, rest)
 
 pub decimal-length : (n : ℕ) → length (decimal n) ≤ 10
 unfolding decimal

@@ -55,6 +55,16 @@ pasted-sets b at w h = sets-eq w b at h
 pub put-byte : (b : List ℕ) (at a : ℕ) → at + 1 ≤ length b → Puts b at (a ∷ []) (at + 1) (set b at a)
 put-byte b at a h = record { room = h; after = refl; there = pasted-sets b at (a ∷ []) h; long = length-set b at a }
 
+pub put-two : (b : List ℕ) (at a c : ℕ) → at + 2 ≤ length b → Puts b at (a ∷ c ∷ []) (at + 2) (set (set b at a) (at + 1) c)
+put-two b at a c h =
+    let one : at + 1 ≡ suc at = omega arith in
+    record {
+      room = h;
+      after = refl;
+      there = (λ j. set (set b at a) (one j) c) ∙ pasted-sets b at (a ∷ c ∷ []) h;
+      long = simp length-set;
+    }
+
 pub put-four : (b : List ℕ) (at a c d e : ℕ) → at + 4 ≤ length b →
     Puts b at (a ∷ c ∷ d ∷ e ∷ []) (at + 4) (set (set (set (set b at a) (at + 1) c) (at + 2) d) (at + 3) e)
 put-four b at a c d e h =

@@ -1,11 +1,11 @@
--- Document 01, 'What the run program prints': the bytes of one line.
+-- Document 01, 'What the run program prints', with document 02's Req 01: the bytes of one line.
 use mathlib.Core.Bool.{cond}
 use mathlib.Core.List.{List, [], _∷_, _++_}
 use Prim.Native.Nat.{ℕ, zero, suc, _+_, _/_, _%_}
-use lib.Dec.{ltb}
+use lib.Dec.{ltb, eqb}
 use Rattle.protocol.specs.declared.Answer.{Answer}
 use Rattle.protocol.specs.declared.Answer.the-variants.{Done, Finished, Refused}
-use Rattle.protocol.specs.Answers.{refusalNumber}
+use Rattle.protocol.specs.Answers.{refusalNumber, noFreshness, oldRead, newRead}
 
 -- the last k decimal digits of n, the most significant first
 unfoldable pub digits : ℕ → ℕ → List ℕ
@@ -29,12 +29,17 @@ decimal n = digits (places n) n
 abbrev pub okStart : ℕ → ℕ → ℕ → List ℕ
 okStart k waiting marks = decimal k ++ (32 ∷ 111 ∷ 107 ∷ 32 ∷ []) ++ decimal waiting ++ (32 ∷ []) ++ decimal marks ++ (32 ∷ [])
 
--- the end of such a line: an operation and its value, or none
-abbrev pub finishEnd : ℕ → ℕ → List ℕ
-finishEnd o v = decimal o ++ (32 ∷ []) ++ decimal v ++ (10 ∷ [])
+-- Req 01: 'ends with a new field: `old` ..., else `new`. Every other `ok` line has `-` there', and the line's end
+unfoldable pub freshnessEnd : ℕ → List ℕ
+freshnessEnd f = cond (eqb f oldRead) (111 ∷ 108 ∷ 100 ∷ 10 ∷ []) (cond (eqb f newRead) (110 ∷ 101 ∷ 119 ∷ 10 ∷ []) (45 ∷ 10 ∷ []))
 
+-- the operation just finished, its value and that field
+abbrev pub finishEnd : ℕ → ℕ → ℕ → List ℕ
+finishEnd o v f = decimal o ++ (32 ∷ []) ++ decimal v ++ (32 ∷ []) ++ freshnessEnd f
+
+-- no operation and no value
 abbrev pub noFinish : List ℕ
-noFinish = 45 ∷ 32 ∷ 45 ∷ 10 ∷ []
+noFinish = 45 ∷ 32 ∷ 45 ∷ 32 ∷ []
 
 -- 'A refusal is number, `no`, refusal.'
 unfoldable pub noLine : ℕ → ℕ → List ℕ
@@ -42,6 +47,6 @@ noLine k refusal = decimal k ++ (32 ∷ 110 ∷ 111 ∷ 32 ∷ []) ++ decimal re
 
 -- the line of record k, from its answer and from what the machine then holds
 unfoldable pub lineOf : ℕ → Answer → ℕ → ℕ → List ℕ
-lineOf k Done waiting marks = okStart k waiting marks ++ noFinish
-lineOf k (Finished o v) waiting marks = okStart k waiting marks ++ finishEnd o v
+lineOf k Done waiting marks = okStart k waiting marks ++ noFinish ++ freshnessEnd noFreshness
+lineOf k (Finished o v f) waiting marks = okStart k waiting marks ++ finishEnd o v f
 lineOf k (Refused r) waiting marks = noLine k (refusalNumber r)

@@ -3,39 +3,19 @@ ghost use mathlib.Core.Path.{_≡_};
 ghost use mathlib.Core.List.{[], _∷_};
 ghost use Prim.Native.Nat.{_+_, _≤_};
 ghost use lib.ListN.{length};
-ghost use Rattle.protocol.specs.Answers.{refusalNumber};
 ghost use lib.Dec.{leb};
 ghost use Rattle.protocol.specs.declared.Answer.the-variants.{Done, Finished};
-ghost use Rattle.lines.specs.Lines.{places, decimal, okStart, finishEnd, noLine, lineOf};
+ghost use Rattle.lines.specs.Lines.{places, decimal, okStart, freshnessEnd, finishEnd, noLine, lineOf};
 ghost use Rattle.lines.specs.Text.{putIn, Puts};
+use limits::Freshness;
 use protocol::Answer;
-use protocol::Refusal;
+use protocol::answers;
+use protocol::answers::NEW;
+use protocol::answers::NONE;
+use protocol::answers::OLD;
 
 // No line has more bytes.
-pub const LONGEST: usize = 58;
-
-// The number that document 01 gives a refusal.
-pub fn refusal_number(r: Refusal) -> u8
-    ensures { λ x. ⌜ x ≡ refusalNumber r ⌝ }
-{
-    match r {
-        Refusal::Format => 1,
-        Refusal::Replicas => 2,
-        Refusal::ObjectNumber => 3,
-        Refusal::OperationsUsedUp => 4,
-        Refusal::OpenFull => 5,
-        Refusal::WaitingFull => 6,
-        Refusal::NoPacket => 7,
-        Refusal::UnstampedRepeat => 8,
-        Refusal::NotLive => 9,
-        Refusal::NoLinkedWrite => 10,
-        Refusal::SwitchNumber => 11,
-        Refusal::LastReplica => 12,
-        Refusal::NotOpen => 13,
-        Refusal::InputTooLong => 14,
-        Refusal::BufferTooShort => 15,
-    }
-}
+pub const LONGEST: usize = 62;
 
 // ---- parts of a line, at a place that has room for them; each function gives the place after what it puts
 
@@ -45,6 +25,15 @@ fn put_byte(out: &mut [u8], at: usize, a: u8) -> usize
 {
     out[at] = a;
     at + 1
+}
+
+fn put_two(out: &mut [u8], at: usize, a: u8, b: u8) -> usize
+    requires { ⌜ at + 2 ≤ length (now out) ⌝ }
+    ensures { λ r. ⌜ Puts (now (out .entry)) at (a ∷ b ∷ []) r (now (out .exit)) ⌝ }
+{
+    out[at] = a;
+    out[at + 1] = b;
+    at + 2
 }
 
 fn put_four(out: &mut [u8], at: usize, a: u8, b: u8, c: u8, d: u8) -> usize
@@ -93,7 +82,7 @@ fn digits_of(n: u32) -> usize
 }
 
 // The digits are filled in from the last to the first.
-fn put_number(out: &mut [u8], at: usize, n: u32) -> usize
+fn put_digits(out: &mut [u8], at: usize, n: u32) -> usize
     requires { ⌜ at + length (decimal n) ≤ length (now out) ⌝ }
     ensures { λ r. ⌜ Puts (now (out .entry)) at (decimal n) r (now (out .exit)) ⌝ }
 {
@@ -106,6 +95,17 @@ fn put_number(out: &mut [u8], at: usize, n: u32) -> usize
         rest = rest / 10;
     }
     at + k
+}
+
+// Most numbers of a line have one digit.
+fn put_number(out: &mut [u8], at: usize, n: u32) -> usize
+    requires { ⌜ at + length (decimal n) ≤ length (now out) ⌝ }
+    ensures { λ r. ⌜ Puts (now (out .entry)) at (decimal n) r (now (out .exit)) ⌝ }
+{
+    if n < 10 {
+        return put_byte(&mut *out, at, 48 + n as u8);
+    }
+    put_digits(&mut *out, at, n)
 }
 
 // A line up to the operation just finished: record number, `ok`, packets waiting and counting marks.
@@ -132,15 +132,30 @@ fn put_no(out: &mut [u8], at: usize, number: u32, refusal: u8) -> usize
     put_byte(&mut *out, at, 10)
 }
 
-// The operation just finished and its value.
-fn put_finish(out: &mut [u8], at: usize, operation: u32, value: u32) -> usize
-    requires { ⌜ at + length (finishEnd operation value) ≤ length (now out) ⌝ }
-    ensures { λ r. ⌜ Puts (now (out .entry)) at (finishEnd operation value) r (now (out .exit)) ⌝ }
+// What a read says of a pending write, and the line's end.
+fn put_freshness(out: &mut [u8], at: usize, freshness: Freshness) -> usize
+    requires { ⌜ at + length (freshnessEnd freshness) ≤ length (now out) ⌝ }
+    ensures { λ r. ⌜ Puts (now (out .entry)) at (freshnessEnd freshness) r (now (out .exit)) ⌝ }
+{
+    if freshness == OLD {
+        return put_four(&mut *out, at, 111, 108, 100, 10);
+    }
+    if freshness == NEW {
+        return put_four(&mut *out, at, 110, 101, 119, 10);
+    }
+    put_two(&mut *out, at, 45, 10)
+}
+
+// The operation just finished, its value, and the line's end.
+fn put_finish(out: &mut [u8], at: usize, operation: u32, value: u32, freshness: Freshness) -> usize
+    requires { ⌜ at + length (finishEnd operation value freshness) ≤ length (now out) ⌝ }
+    ensures { λ r. ⌜ Puts (now (out .entry)) at (finishEnd operation value freshness) r (now (out .exit)) ⌝ }
 {
     let at = put_number(&mut *out, at, operation);
     let at = put_byte(&mut *out, at, 32);
     let at = put_number(&mut *out, at, value);
-    put_byte(&mut *out, at, 10)
+    let at = put_byte(&mut *out, at, 32);
+    put_freshness(&mut *out, at, freshness)
 }
 
 // ---- whole lines
@@ -150,7 +165,8 @@ fn put_done(out: &mut [u8], at: usize, number: u32, waiting: u32, marks: u32) ->
     ensures { λ r. ⌜ Puts (now (out .entry)) at (lineOf number Done waiting marks) r (now (out .exit)) ⌝ }
 {
     let at = put_ok(&mut *out, at, number, waiting, marks);
-    put_four(&mut *out, at, 45, 32, 45, 10)
+    let at = put_four(&mut *out, at, 45, 32, 45, 32);
+    put_freshness(&mut *out, at, NONE)
 }
 
 fn put_finished(
@@ -159,14 +175,15 @@ fn put_finished(
     number: u32,
     operation: u32,
     value: u32,
+    freshness: Freshness,
     waiting: u32,
     marks: u32,
 ) -> usize
-    requires { ⌜ at + length (lineOf number (Finished operation value) waiting marks) ≤ length (now out) ⌝ }
-    ensures { λ r. ⌜ Puts (now (out .entry)) at (lineOf number (Finished operation value) waiting marks) r (now (out .exit)) ⌝ }
+    requires { ⌜ at + length (lineOf number (Finished operation value freshness) waiting marks) ≤ length (now out) ⌝ }
+    ensures { λ r. ⌜ Puts (now (out .entry)) at (lineOf number (Finished operation value freshness) waiting marks) r (now (out .exit)) ⌝ }
 {
     let at = put_ok(&mut *out, at, number, waiting, marks);
-    put_finish(&mut *out, at, operation, value)
+    put_finish(&mut *out, at, operation, value, freshness)
 }
 
 // The line of a record, from its answer and from what the machine then holds.
@@ -183,16 +200,17 @@ fn put_line(
 {
     match answer {
         Answer::Done => put_done(&mut *out, at, number, waiting, marks),
-        Answer::Finished(operation, value) => put_finished(
+        Answer::Finished(operation, value, freshness) => put_finished(
             &mut *out,
             at,
             number,
             operation,
             value,
+            freshness,
             waiting,
             marks,
         ),
-        Answer::Refused(refusal) => put_no(&mut *out, at, number, refusal_number(refusal)),
+        Answer::Refused(refusal) => put_no(&mut *out, at, number, answers::refusal_number(refusal)),
     }
 }
 
@@ -210,15 +228,28 @@ fn no_length(number: u32, refusal: u8) -> usize
     digits_of(number) + digits_of(refusal as u32) + 5
 }
 
+fn finish_length(operation: u32, value: u32, freshness: Freshness) -> usize
+    ensures { λ r. ⌜ (r ≡ length (finishEnd operation value freshness)) × (r ≤ 26) ⌝ }
+{
+    let digits = digits_of(operation) + digits_of(value);
+    if freshness == OLD {
+        return digits + 6;
+    }
+    if freshness == NEW {
+        return digits + 6;
+    }
+    digits + 4
+}
+
 fn line_length(number: u32, answer: Answer, waiting: u32, marks: u32) -> usize
     ensures { λ r. ⌜ r ≡ length (lineOf number answer waiting marks) ⌝ }
 {
     match answer {
-        Answer::Done => ok_length(number, waiting, marks) + 4,
-        Answer::Finished(operation, value) => {
-            ok_length(number, waiting, marks) + digits_of(operation) + digits_of(value) + 2
+        Answer::Done => ok_length(number, waiting, marks) + 6,
+        Answer::Finished(operation, value, freshness) => {
+            ok_length(number, waiting, marks) + finish_length(operation, value, freshness)
         }
-        Answer::Refused(refusal) => no_length(number, refusal_number(refusal)),
+        Answer::Refused(refusal) => no_length(number, answers::refusal_number(refusal)),
     }
 }
 

@@ -6,8 +6,9 @@ use native.Mathlib.Nat.{not-suc-le-zero, le-of-suc-le-suc}
 use native.Mathlib.Decide.{ℕ-discrete, decLt}
 use native.Mathlib.Omega.{arith}
 use lib.ListN.{length, getD, set, length-set}
-use lib.Seq.{getD-set-same, getD-set-other}
+use lib.Seq.{getD-set-same, getD-set-other, set-getD}
 use Rattle.lists.specs.{moves, listOf}
+use Rattle.lists.proofs.Closing.{moves-turn}
 
 pub length-listOf : (f : ℕ → ℕ) (n : ℕ) → length (listOf f n) ≡ n
 unfolding listOf
@@ -47,4 +48,21 @@ module _ {A : Type 0} (d : A) where
         | no n ↦
             getD-moves (set l i (getD l (i + 1) d)) (i + 1) k j (omega arith) (omega arith) (rw length-set h) ∙
             getD-set-other l i (j + 1) (getD l (i + 1) d) d (λ e. omega arith)
+      ]
+
+  -- the element of place e is moved down once more: all are then moved up to there, whether it was moved before or not
+  pub moves-last : (l : List A) (p i e : ℕ) → p < e → p ≤ i → i ≤ e → e ≤ i + 1 → e < length l →
+      set (moves d l p (i - p)) (e - 1) (getD (moves d l p (i - p)) e d) ≡ moves d l p (e - p)
+  moves-last l p i e b h k m fits =
+      elim (ℕ-discrete i e) [
+        | yes q ↦
+            let row : List A = moves d l p (e - p) in
+            let same : getD row e d ≡ getD row (e - 1) d =
+            getD-moves-other l p (e - p) e (λ a. omega (arith, a)) ∙
+            sym (getD-moves l p (e - p) (e - 1) (omega arith) (omega arith) (omega arith) ∙ ap (λ (n : ℕ). getD l n d) (omega arith)) in
+            rw q (ap (set row (e - 1)) same ∙ set-getD row (e - 1) d)
+        | no q ↦
+            let next : e ≡ i + 1 = omega arith in
+            let before : e - 1 ≡ i = omega arith in
+            rw (before, next) (moves-turn d l p i h)
       ]

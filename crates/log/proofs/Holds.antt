@@ -12,8 +12,8 @@ use Rattle.history.proofs.Entries.{empty}
 use Rattle.history.proofs.Lists.{only-member, cases-append, in-take, in-getD}
 use Rattle.history.proofs.Tests.{by-test, eqb-true, eqb-false}
 use Rattle.stamp.proofs.Laws.{larger-is}
-use Rattle.replicas.specs.declared.Write.{Write}
-use Rattle.replicas.specs.Store.{highestOf, valueAt, stampAt}
+use Rattle.store.specs.declared.Write.{Write}
+use Rattle.store.specs.{highestOf, valueAt, stampAt}
 use Rattle.replicas.specs.Replicas.{applying}
 use Rattle.replicas.proofs.Cells.{SizedStore, Named, row-apart, highest-applying-same, highest-applying-other}
 use Rattle.replicas.proofs.Cells.{value-applying-same, value-applying-other, stamp-applying-same, stamp-applying-other}

@@ -2,17 +2,18 @@
 use mathlib.Core.Path.{_≡_, refl, sym, ap, _∙_, subst}
 use mathlib.Core.Logic.{_⊎_, inl, inr}
 use mathlib.Core.Bool.{Bool, true, false, cond}
-use mathlib.Core.List.{List, [], _∷_, _++_, List·Memᴰ·not-nil as no-member}
-use mathlib.Core.List.{List·Memᴰ·cases-cons as cases-cons}
-use Prim.Native.Nat.{ℕ, _-_, _≤_, _<_}
+use mathlib.Core.List.{List, [], _∷_, _++_}
+use Prim.Native.Nat.{ℕ, suc, _-_, _≤_, _<_}
 use native.Mathlib.Nat.{add-sub-of-le}
 use native.Mathlib.Omega.{arith}
 use lib.Dec.{eqb}
 use lib.ListN.{take, drop, take-append-drop}
 use lib.Seq.{take-add}
+use borrow.Author.Tests.{eqb-true, eq-eqb}
 use Rattle.history.specs.History.{_∈_, writes}
+use Rattle.history.proofs.Lists.{here, there, no-member, cases-cons}
 use Rattle.history.proofs.Entries.{Store, empty, put}
-use Rattle.replicas.specs.declared.Write.{Write}
+use Rattle.store.specs.declared.Write.{Write}
 
 -- a table of one number for each object after some writes: of the values, `table (λ w. w .value) empty log`; of the stamps likewise
 abbrev pub table : (Write → ℕ) → Store → List Write → Store
@@ -85,11 +86,11 @@ rising-from : (lo hi : ℕ) (l : List Write) → lo ≤ hi → Rising hi l → R
 rising-from lo hi [] g r = tt
 rising-from lo hi (u ∷ l) g r = (omega (arith, r .0), r .1)
 
--- above c stays above c
-stamp-above : (c x : ℕ) (t : Store) (mid : List Write) → Rising c mid → c < t x → c < table (λ w. w .stamp) t mid x
-stamp-above c x t [] r h = h
-stamp-above c x t (w ∷ ws) r h = stamp-above c x (put (writes (w .object) (w .stamp)) t) ws (rising-from c (w .stamp) ws (omega (arith, r .0)) (r .1)) (elim (put-either (w .object) x) [
-  | inl e ↦ rw (e (w .stamp) t) (r .0)
+-- a stamp of at least d stays so, if the writes are all at d or above
+stamp-from : (c d x : ℕ) (t : Store) (mid : List Write) → d ≤ suc c → Rising c mid → d ≤ t x → d ≤ table (λ w. w .stamp) t mid x
+stamp-from c d x t [] low r h = h
+stamp-from c d x t (w ∷ ws) low r h = stamp-from c d x (put (writes (w .object) (w .stamp)) t) ws low (rising-from c (w .stamp) ws (omega (arith, r .0)) (r .1)) (elim (put-either (w .object) x) [
+  | inl e ↦ rw (e (w .stamp) t) (omega (arith, r .0))
   | inr e ↦ rw (e (w .stamp) t) h
 ])
 
@@ -101,9 +102,34 @@ untouched c x s t (w ∷ ws) r h =
     let s' : Store = put (writes (w .object) (w .value)) s in
     let t' : Store = put (writes (w .object) (w .stamp)) t in
     elim (put-either (w .object) x) [
-      | inl e ↦ absurd (let up = stamp-above c x t' ws low (rw (e (w .stamp) t) (r .0)) in omega (arith, up, h))
+      | inl e ↦ absurd (let up = stamp-from c (suc c) x t' ws (omega arith) low (rw (e (w .stamp) t) (omega (arith, r .0))) in omega (arith, up, h))
       | inr e ↦ untouched c x s' t' ws low h ∙ e (w .value) s
     ]
+
+-- an object's stamp is not below that of any write to it
+pub stamp-last : (lo : ℕ) (s : Store) (l : List Write) (w : Write) → Rising lo l → w ∈ l → w .stamp ≤ table (λ u. u .stamp) s l (w .object)
+stamp-last lo s [] w r m = absurd (no-member m)
+stamp-last lo s (u ∷ l) w r m = elim (cases-cons m) [
+  | inl e ↦ stamp-from (u .stamp) (w .stamp) (w .object) (put (writes (u .object) (u .stamp)) s) l (omega (arith, ap (λ (z : Write). z .stamp) e)) (r .1)
+      (rw (eq-eqb (u .object) (w .object) (ap (λ (z : Write). z .object) (sym e))) (omega (arith, ap (λ (z : Write). z .stamp) e)))
+  | inr n ↦ stamp-last (u .stamp) (put (writes (u .object) (u .stamp)) s) l w (r .1) n
+]
+
+-- and if it is not what the table began with, it is that of a write to it
+pub stamp-of : (s : Store) (l : List Write) (x : ℕ)
+    → (table (λ u. u .stamp) s l x ≡ s x) ⊎ ((w : Write) × (w ∈ l) × (w .object ≡ x) × (w .stamp ≡ table (λ u. u .stamp) s l x))
+stamp-of s [] x = inl refl
+stamp-of s (u ∷ l) x = elim (stamp-of (put (writes (u .object) (u .stamp)) s) l x) [
+  | inl e ↦ go (eqb (u .object) x) refl e
+  | inr t ↦ inr (t .0, there (t .1), t .2, t .3)
+]
+  where
+    last : ℕ
+    last = table (λ w. w .stamp) (put (writes (u .object) (u .stamp)) s) l x
+
+    go : (b : Bool) → eqb (u .object) x ≡ b → last ≡ cond b (u .stamp) (s x) → (last ≡ s x) ⊎ ((w : Write) × (w ∈ u ∷ l) × (w .object ≡ x) × (w .stamp ≡ last))
+    go true q e = inr (u, here refl, eqb-true (u .object) x q, sym e)
+    go false q e = inl e
 
 -- the parts of a log
 pub rising-take : (lo m : ℕ) (log : List Write) → Rising lo log → Rising lo (take m log)

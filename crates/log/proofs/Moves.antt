@@ -9,12 +9,12 @@ use native.Mathlib.Decide.{decLt}
 use native.Mathlib.Omega.{arith}
 use lib.ListN.{length, getD, take, length-append, List·getD-append}
 use lib.Seq.{take-length, length-take-le, take-take, take-append-le, getD-take, getD-append-seam, slice, slice-empty, slice-cons}
-use Rattle.replicas.specs.declared.Write.{Write}
-use Rattle.replicas.specs.Store.{liveCount, highestOf, appliedBy, entryAt, logged}
-use Rattle.replicas.specs.Chain.{chainPlace, isLive, memberAt, headOf, tailOf, removed}
+use Rattle.store.specs.declared.Write.{Write}
+use Rattle.store.specs.{liveCount, highestOf, appliedBy, entryAt, logged}
+use Rattle.chain.specs.{chainPlace, isLive, memberAt, headOf, tailOf, removed}
 use Rattle.replicas.specs.Replicas.{accepts, applying, taking, pending, oldest}
 use Rattle.replicas.specs.Links.{entries}
-use Rattle.replicas.proofs.Members.{member-in, in-live, live-in, place-at, place-below, live-same, head-same, tail-same}
+use Rattle.chain.proofs.Members.{member-in, in-live, live-in, place-at, place-below, live-same, head-same, tail-same}
 use Rattle.replicas.proofs.Cells.{SizedStore, entry-applying, sized-logged, members-logged, highest-logged, applied-logged, value-logged, stamp-logged, entry-logged-same, entry-logged-other}
 use Rattle.replicas.proofs.Cells.{positions-apart, sized-removed, highest-removed, applied-removed, entry-removed, value-removed, stamp-removed}
 use Rattle.replicas.proofs.Shape.{count-removed, member-removed-before, member-removed-behind}

@@ -10,11 +10,11 @@ use lib.ListN.{length, getD, take}
 use lib.Seq.{take-nil}
 use Rattle.history.specs.History.{_∈_}
 use Rattle.history.proofs.Lists.{in-getD}
-use Rattle.replicas.specs.declared.Write.{Write}
-use Rattle.replicas.specs.Store.{liveCount, members, appliedBy, entryAt, valueAt, stampAt}
-use Rattle.replicas.specs.Chain.{chainPlace, isLive, memberAt, headOf, tailOf, permitting, emptyStore}
+use Rattle.store.specs.declared.Write.{Write}
+use Rattle.store.specs.{liveCount, members, appliedBy, entryAt, valueAt, stampAt}
+use Rattle.chain.specs.{chainPlace, isLive, memberAt, headOf, tailOf, permitting, emptyStore}
 use Rattle.replicas.specs.Replicas.{linkedWrites, applying}
-use Rattle.replicas.proofs.Members.{head-is, tail-is, member-in, in-live, live-in, place-at, place-below, count-same, head-same, tail-same}
+use Rattle.chain.proofs.Members.{head-is, tail-is, member-in, in-live, live-in, place-at, place-below, count-same, head-same, tail-same}
 use Rattle.replicas.proofs.Cells.{SizedStore, Named, row-apart, sized-applying, members-applying, entry-applying, applied-applying-same, applied-applying-other}
 use Rattle.replicas.proofs.Cells.{sized-permitting, members-permitting, highest-permitting, applied-permitting, entry-permitting, value-permitting, stamp-permitting}
 use Rattle.replicas.proofs.Shape.{sized-empty, count-empty, highest-empty, applied-empty, value-empty, stamp-empty}
@@ -98,6 +98,9 @@ module _ {s : List ℕ} {log : List Write} {m n : ℕ} (k : ShowsTo s log m n) w
   -- the tail gives what the visible writes leave
   pub read-tail : (x : ℕ) → x < 1024 → valueAt s (tailOf s) x ≡ values (take n log) x
   read-tail x b = read-value (tailOf s) x (tail-live k) b ∙ rw (k .tail-has)
+
+  pub stamp-tail : (x : ℕ) → x < 1024 → stampAt s (tailOf s) x ≡ stamps (take n log) x
+  stamp-tail x b = read-stamp (tailOf s) x (tail-live k) b ∙ rw (k .tail-has)
 
   -- and so does each live replica whose stamp of the object is not above that of a visible write
   pub read-direct : (r x carried : ℕ) → Rising 0 log → isLive s r ≡ true → x < 1024 → carried ≤ top 0 (take n log) → stampAt s r x ≤ carried

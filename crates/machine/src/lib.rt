@@ -2,22 +2,14 @@
 // packets) and the count of those that wait.
 ghost use mathlib.Core.Path.{_≡_};
 ghost use Rattle.protocol.specs.Decisions.{given};
-ghost use Rattle.protocol.specs.Steps.{machine, startRefused, startAnswer, startSwitch, startStore, startOpens, delivered, positionOf, isMalformed, decided, decidedIn, steppedBy, after};
+ghost use Rattle.protocol.specs.Steps.{machine, startRefused, startAnswer, startSwitch, startStore, startOpens, positionOf, decidedIn, steppedBy, after};
 ghost use Rattle.machine.specs.{decidedWith};
 ghost use Rattle.waiting.specs.Waiting.{waitingList, heldIn};
-use limits::OBJECTS;
-use limits::Object;
-use limits::Operation;
 use limits::REPLICAS;
-use limits::WAITING;
 use protocol::Answer;
-use protocol::Decision;
 use protocol::Refusal;
 use protocol::Step;
 use protocol::Stepped;
-use protocol::decisions;
-use protocol::messages;
-use replicas::chain;
 use switch::Switch;
 use waiting::Edit;
 use waiting::Packet;
@@ -43,7 +35,7 @@ pub fn start_refused(n: u8) -> bool
 pub fn start(
     n: u8,
     switch: &mut [u32; switch::CELLS],
-    store: &mut [u32; replicas::CELLS],
+    store: &mut [u32; store::CELLS],
     opens: &mut [u32; operations::CELLS],
 ) -> Answer
     ensures { λ r. ⌜ (r ≡ startAnswer n)
@@ -78,115 +70,10 @@ fn position(x: Step) -> usize
     }
 }
 
-// Whether the step is none.
-fn is_malformed(x: Step) -> bool
-    ensures { λ r. ⌜ r ≡ isMalformed x ⌝ }
-{
-    match x {
-        Step::Start(n) => true,
-        Step::BeginRead(x) => false,
-        Step::BeginWrite(x, v) => false,
-        Step::Deliver(at, choice) => false,
-        Step::Lose(at) => false,
-        Step::Repeat(at) => false,
-        Step::Advance(r) => false,
-        Step::Replace(number) => false,
-        Step::Tell(r) => false,
-        Step::Remove(r) => false,
-        Step::GiveUp(o) => false,
-    }
-}
-
-fn deliver(
-    switch: &mut [u32; switch::CELLS],
-    store: &mut [u32; replicas::CELLS],
-    opens: &mut [u32; operations::CELLS],
-    held: usize,
-    p: Packet,
-    at: usize,
-    choice: u8,
-) -> Decision
-    ensures { λ d. ⌜ (d ≡ delivered (given (now (switch .entry)) (now (store .entry)) (now (opens .entry)) held) p at choice .decision)
-        × (now (switch .exit) ≡ delivered (given (now (switch .entry)) (now (store .entry)) (now (opens .entry)) held) p at choice .switch)
-        × (now (store .exit) ≡ delivered (given (now (switch .entry)) (now (store .entry)) (now (opens .entry)) held) p at choice .store)
-        × (now (opens .exit) ≡ delivered (given (now (switch .entry)) (now (store .entry)) (now (opens .entry)) held) p at choice .opens) ⌝ }
-{
-    if held <= at {
-        return decisions::refuse(Refusal::NoPacket);
-    }
-    if OBJECTS <= (p.object as usize) {
-        return decisions::drop_packet(at);
-    }
-    let m = messages::message_of(p);
-    delivery::deliver(&mut *switch, &mut *store, &mut *opens, held, at, choice, m)
-}
-
-// What is decided of a step; p is the packet at its position. The lent numbers are left as the step leaves them.
-fn decide(
-    switch: &mut [u32; switch::CELLS],
-    store: &mut [u32; replicas::CELLS],
-    opens: &mut [u32; operations::CELLS],
-    held: usize,
-    p: Packet,
-    x: Step,
-) -> Decision
-    ensures { λ d. ⌜ (d ≡ decided (given (now (switch .entry)) (now (store .entry)) (now (opens .entry)) held) p x .decision)
-        × (now (switch .exit) ≡ decided (given (now (switch .entry)) (now (store .entry)) (now (opens .entry)) held) p x .switch)
-        × (now (store .exit) ≡ decided (given (now (switch .entry)) (now (store .entry)) (now (opens .entry)) held) p x .store)
-        × (now (opens .exit) ≡ decided (given (now (switch .entry)) (now (store .entry)) (now (opens .entry)) held) p x .opens) ⌝ }
-{
-    match x {
-        Step::Start(n) => decisions::refuse(Refusal::Format),
-        Step::BeginRead(x) => steps::begin(&mut *opens, held, false, x as Object, 0),
-        Step::BeginWrite(x, v) => steps::begin(&mut *opens, held, true, x as Object, v),
-        Step::Deliver(at, choice) => deliver(
-            &mut *switch,
-            &mut *store,
-            &mut *opens,
-            held,
-            p,
-            at as usize,
-            choice,
-        ),
-        Step::Lose(at) => steps::lose(held, at as usize),
-        Step::Repeat(at) => steps::repeat(held, p, at as usize),
-        Step::Advance(r) => steps::advance(&mut *store, held, r),
-        Step::Replace(number) => steps::replace(&mut *switch, number),
-        Step::Tell(r) => steps::tell(switch, &mut *store, r),
-        Step::Remove(r) => steps::remove(&mut *store, r),
-        Step::GiveUp(o) => steps::give_up(&mut *opens, o as Operation),
-    }
-}
-
-// The same, where `count` packets wait in so many lent places.
-fn decide_among(
-    switch: &mut [u32; switch::CELLS],
-    store: &mut [u32; replicas::CELLS],
-    opens: &mut [u32; operations::CELLS],
-    places: usize,
-    count: usize,
-    p: Packet,
-    x: Step,
-) -> Decision
-    ensures { λ d. ⌜ (d ≡ decidedIn places (given (now (switch .entry)) (now (store .entry)) (now (opens .entry)) (heldIn count)) p x .decision)
-        × (now (switch .exit) ≡ decidedIn places (given (now (switch .entry)) (now (store .entry)) (now (opens .entry)) (heldIn count)) p x .switch)
-        × (now (store .exit) ≡ decidedIn places (given (now (switch .entry)) (now (store .entry)) (now (opens .entry)) (heldIn count)) p x .store)
-        × (now (opens .exit) ≡ decidedIn places (given (now (switch .entry)) (now (store .entry)) (now (opens .entry)) (heldIn count)) p x .opens) ⌝ }
-{
-    if is_malformed(x) {
-        return decisions::refuse(Refusal::Format);
-    }
-    if places < WAITING {
-        return decisions::refuse(Refusal::BufferTooShort);
-    }
-    let held = waiting::held(count);
-    decide(&mut *switch, &mut *store, &mut *opens, held, p, x)
-}
-
-// The same, with the marks that count then.
+// What is decided of a step where `count` packets wait in so many lent places, with the marks that count then.
 fn decide_marks(
     switch: &mut [u32; switch::CELLS],
-    store: &mut [u32; replicas::CELLS],
+    store: &mut [u32; store::CELLS],
     opens: &mut [u32; operations::CELLS],
     places: usize,
     count: usize,
@@ -198,7 +85,7 @@ fn decide_marks(
         × (now (store .exit) ≡ decidedIn places (given (now (switch .entry)) (now (store .entry)) (now (opens .entry)) (heldIn count)) p x .store)
         × (now (opens .exit) ≡ decidedIn places (given (now (switch .entry)) (now (store .entry)) (now (opens .entry)) (heldIn count)) p x .opens) ⌝ }
 {
-    let d = decide_among(&mut *switch, &mut *store, &mut *opens, places, count, p, x);
+    let d = dispatch::decide(&mut *switch, &mut *store, &mut *opens, places, count, p, x);
     let marks = switch::cells::count(switch);
     let answer = d.answer;
     let edit = d.edit;
@@ -224,7 +111,7 @@ fn result(d: Decided, count: usize) -> Stepped
 // One step of the machine: look at the packet, decide, edit the list.
 pub fn step(
     switch: &mut [u32; switch::CELLS],
-    store: &mut [u32; replicas::CELLS],
+    store: &mut [u32; store::CELLS],
     opens: &mut [u32; operations::CELLS],
     packets: &mut [Packet],
     count: usize,

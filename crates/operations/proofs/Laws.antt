@@ -84,7 +84,7 @@ pub sized-closing : (l : List ℕ) (o : ℕ) → SizedOpens l → SizedOpens (cl
 unfolding closing
 sized-closing l o h = go (isOpen l o)
   where
-    go : (b : Bool) → SizedOpens (cond b (set (set l (openPlace l o) (getD l (openCount l - 1) 0)) 64 (openCount l - 1)) l)
+    go : (b : Bool) → SizedOpens (cond b (set (set (set l (openPlace l o) (getD l (openCount l - 1) 0)) (openCount l - 1) 0) 64 (openCount l - 1)) l)
     go true = simp length-set h
     go false = h
 
@@ -193,37 +193,51 @@ module _ (l : List ℕ) (o : ℕ) (z : SizedOpens l) (was : isOpen l o ≡ true)
   here : OpenAt l o (openPlace l o)
   here = open-place l o was
 
-  closing-is : closing l o ≡ set (set l (openPlace l o) (getD l (openCount l - 1) 0)) 64 (openCount l - 1)
-  unfolding closing
+  -- the cells with the last number in the closed one's place, and then without it in its own
+  moved : List ℕ
+  moved = set l (openPlace l o) (getD l (openCount l - 1) 0)
+
+  emptied : List ℕ
+  emptied = set moved (openCount l - 1) 0
+
+  closing-is : closing l o ≡ set emptied 64 (openCount l - 1)
+  unfolding closing emptied moved
   closing-is = rw was
+
+  length-emptied : length emptied ≡ length l
+  unfolding emptied moved
+  length-emptied = simp length-set
 
   pub count-closing : openCount (closing l o) ≡ openCount l - 1
   unfolding openCount
   count-closing =
       let cell : getD (closing l o) 64 0 ≡ openCount l - 1 =
-      ap (λ (k : List ℕ). getD k 64 0) closing-is ∙
-      getD-set-same (set l (openPlace l o) (getD l (openCount l - 1) 0)) 64 (openCount l - 1) 0 (simp length-set (omega arith)) in
+      ap (λ (k : List ℕ). getD k 64 0) closing-is ∙ getD-set-same emptied 64 (openCount l - 1) 0 (omega (arith, length-emptied)) in
       omega (arith, cell)
 
+  -- any other place than the two
+  closed-at : (i : ℕ) → (i ≡ 64 → ⊥) → (i ≡ openCount l - 1 → ⊥) → getD (closing l o) i 0 ≡ getD moved i 0
+  unfolding emptied
+  closed-at i a b =
+      ap (λ (k : List ℕ). getD k i 0) closing-is ∙ getD-set-other emptied 64 i (openCount l - 1) 0 a ∙ getD-set-other moved (openCount l - 1) i 0 0 b
+
   pub last-closing : lastGiven (closing l o) ≡ lastGiven l
-  unfolding lastGiven
+  unfolding lastGiven moved
   last-closing =
-      ap (λ (k : List ℕ). getD k 65 0) closing-is ∙
-      getD-set-other (set l (openPlace l o) (getD l (openCount l - 1) 0)) 64 65 (openCount l - 1) 0 (λ e. omega arith) ∙
+      closed-at 65 (λ e. omega arith) (λ e. omega (arith, count-most l)) ∙
       getD-set-other l (openPlace l o) 65 (getD l (openCount l - 1) 0) 0 (λ e. omega (arith, here .0, count-most l))
 
   -- the last number stands in the closed one's place, and the others stay
-  closed-here : getD (closing l o) (openPlace l o) 0 ≡ getD l (openCount l - 1) 0
-  closed-here =
-      ap (λ (k : List ℕ). getD k (openPlace l o) 0) closing-is ∙
-      getD-set-other (set l (openPlace l o) (getD l (openCount l - 1) 0)) 64 (openPlace l o) (openCount l - 1) 0 (λ e. omega (arith, here .0, count-most l)) ∙
+  closed-here : openPlace l o < openCount l - 1 → getD (closing l o) (openPlace l o) 0 ≡ getD l (openCount l - 1) 0
+  unfolding moved
+  closed-here b =
+      closed-at (openPlace l o) (λ e. omega (arith, count-most l)) (λ e. omega arith) ∙
       getD-set-same l (openPlace l o) (getD l (openCount l - 1) 0) 0 (omega (arith, here .0, count-most l))
 
-  closed-other : (i : ℕ) → i < openCount l → (i ≡ openPlace l o → ⊥) → getD (closing l o) i 0 ≡ getD l i 0
+  closed-other : (i : ℕ) → i < openCount l - 1 → (i ≡ openPlace l o → ⊥) → getD (closing l o) i 0 ≡ getD l i 0
+  unfolding moved
   closed-other i b n =
-      ap (λ (k : List ℕ). getD k i 0) closing-is ∙
-      getD-set-other (set l (openPlace l o) (getD l (openCount l - 1) 0)) 64 i (openCount l - 1) 0 (λ e. omega (arith, count-most l)) ∙
-      getD-set-other l (openPlace l o) i (getD l (openCount l - 1) 0) 0 n
+      closed-at i (λ e. omega (arith, count-most l)) (λ e. omega arith) ∙ getD-set-other l (openPlace l o) i (getD l (openCount l - 1) 0) 0 n
 
   -- the place that a number stood in before
   abbrev Stood : ℕ → ℕ → Type 0
@@ -236,7 +250,7 @@ module _ (l : List ℕ) (o : ℕ) (z : SizedOpens l) (was : isOpen l o ≡ true)
           openCount l - 1,
           omega (arith, h, count-closing),
           λ q. omega (arith, h, count-closing, e),
-          ap (λ (j : ℕ). getD (closing l o) j 0) e ∙ closed-here,
+          ap (λ (j : ℕ). getD (closing l o) j 0) e ∙ closed-here (omega (arith, h, count-closing, e)),
           inl (e, refl),
         )
         | no n ↦ (i, omega (arith, h, count-closing), n, closed-other i (omega (arith, h, count-closing)) n, inr (n, refl))
@@ -252,10 +266,10 @@ module _ (l : List ℕ) (o : ℕ) (z : SizedOpens l) (was : isOpen l o ≡ true)
       go at (yes q) =
           open-at (closing l o) p (openPlace l o) (
             omega (arith, count-closing, here .0, apart at, q),
-            closed-here ∙ ap (λ (i : ℕ). getD l i 0) (sym q) ∙ at .1,
+            closed-here (omega (arith, here .0, apart at, q)) ∙ ap (λ (i : ℕ). getD l i 0) (sym q) ∙ at .1,
           )
       go at (no q) =
-          open-at (closing l o) p (openPlace l p) (omega (arith, count-closing, at .0, q), closed-other (openPlace l p) (at .0) (apart at) ∙ at .1)
+          open-at (closing l o) p (openPlace l p) (omega (arith, count-closing, at .0, q), closed-other (openPlace l p) (omega (arith, at .0, q)) (apart at) ∙ at .1)
 
   module _ (u : OpenOnce l) where
     pub open-after-closing : (p : ℕ) → isOpen (closing l o) p ≡ true → (isOpen l p ≡ true) × (p ≡ o → ⊥)

@@ -7,6 +7,7 @@ use lib.Dec.{ltb}
 use lib.ListN.{getD, set, replicate}
 use Rattle.limits.specs as limits
 use Rattle.lists.specs.{indexOf, listOf}
+pub mod Search
 
 abbrev pub openCountCell : ℕ
 openCountCell = 64
@@ -45,9 +46,9 @@ unfoldable pub opening : List ℕ → ℕ → List ℕ
 opening cells o =
     cond (roomToOpen cells) (set (set (set cells (openCount cells) o) openCountCell (openCount cells + 1)) lastGivenCell o) cells
 
--- the operation is open no more: the last of the open numbers takes its place
+-- the operation is open no more: the last of the open numbers takes its place, and leaves its own empty
 unfoldable pub closing : List ℕ → ℕ → List ℕ
 closing cells o =
     cond (isOpen cells o)
-    (set (set cells (openPlace cells o) (getD cells (openCount cells - 1) 0)) openCountCell (openCount cells - 1))
+    (set (set (set cells (openPlace cells o) (getD cells (openCount cells - 1) 0)) (openCount cells - 1) 0) openCountCell (openCount cells - 1))
     cells

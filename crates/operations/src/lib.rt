@@ -1,6 +1,7 @@
 // The open operations: their numbers in cells that the caller lends, without a gap, how many they are, and the last number given.
 ghost use mathlib.Core.Path.{_≡_};
 ghost use Prim.Native.Nat.{_≤_, _<_};
+ghost use Rattle.operations.specs.Search.{weightAt, weighed};
 ghost use Rattle.operations.specs.{openCount, lastGiven, noneOpen, openPlace, isOpen, roomToOpen, opening, closing};
 use limits::OPEN;
 use limits::Operation;
@@ -35,8 +36,31 @@ pub fn last(cells: &[u32; CELLS]) -> Operation
     cells[LAST]
 }
 
-// The place of the operation among the open ones, or their number where it is not open.
-fn find(cells: &[u32; CELLS], o: Operation) -> usize
+// ---- the place of an operation
+
+// What a cell adds to the sum over the cells: where it holds the number, 65,536 and its place.
+fn weight(cell: u32, o: Operation, i: u32) -> u32
+    requires { ⌜ i < 64 ⌝ }
+    ensures { λ r. ⌜ r ≡ weightAt cell o i ⌝ }
+{
+    if cell == o { 65536 + i } else { 0 }
+}
+
+// The sum over the cells: 0 where none holds the number, and 65,536 and the place where one does. A loop with no exit in its middle is vector code.
+fn weigh(cells: &[u32; CELLS], o: Operation) -> u32
+    ensures { λ r. ⌜ r ≡ weighed (now (cells .entry)) o 64 ⌝ }
+{
+    let mut sum: u32 = 0;
+    let mut i: u32 = 0;
+    while i < 64 {
+        sum += weight(cells[i as usize], o, i);
+        i += 1;
+    }
+    sum
+}
+
+// The first place of the operation among the open ones, or their number where it is not open.
+fn scan(cells: &[u32; CELLS], o: Operation) -> usize
     ensures { λ r. ⌜ r ≡ openPlace (now (cells .entry)) o ⌝ }
 {
     let n = count(cells);
@@ -46,6 +70,25 @@ fn find(cells: &[u32; CELLS], o: Operation) -> usize
             return i;
         }
         i += 1;
+    }
+    n
+}
+
+// The same. Where more than one cell holds the number, which no run reaches, the cells are gone through one by one.
+fn find(cells: &[u32; CELLS], o: Operation) -> usize
+    ensures { λ r. ⌜ r ≡ openPlace (now (cells .entry)) o ⌝ }
+{
+    let n = count(cells);
+    let sum = weigh(cells, o);
+    if sum == 0 {
+        return n;
+    }
+    if 131072 <= sum {
+        return scan(cells, o);
+    }
+    let i = wide(sum - 65536);
+    if i < n {
+        return i;
     }
     n
 }
@@ -83,9 +126,11 @@ pub fn close(cells: &mut [u32; CELLS], o: Operation) -> bool
     if n <= i {
         return false;
     }
-    let p = cells[n - 1];
+    let last = n - 1;
+    let p = cells[last];
     cells[i] = p;
-    cells[COUNT] = (n - 1) as u32;
+    cells[last] = 0;
+    cells[COUNT] = last as u32;
     true
 }
 

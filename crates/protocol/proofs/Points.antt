@@ -9,11 +9,12 @@ use Rattle.limits.specs as limits
 use Rattle.lists.specs.{indexOf, listOf, moves}
 use Rattle.stamp.specs.Stamps.{stampOf, numberOf, counterOf, isAbove, largerOf}
 use Rattle.operations.specs.{noneOpen, openCount, lastGiven, roomToOpen}
-use Rattle.replicas.specs.Store.{entryCell, valueCell, stampCell, storeCells, liveCount, orderAt, members, rowOf, highestOf, permittedBy, appliedBy, valueAt, stampAt, logged, tabled, raised}
-use Rattle.replicas.specs.Chain.{chainPlace, isLive, memberAt, headOf, tailOf, chosenBy, removed, emptyCells, numbered, emptyStore}
+use Rattle.store.specs.{entryCell, valueCell, stampCell, storeCells, liveCount, orderAt, members, rowOf, highestOf, permittedBy, appliedBy, valueAt, stampAt, logged, tabled, raised}
+use Rattle.chain.specs.{chainPlace, isLive, memberAt, headOf, tailOf, chosenBy, removed, emptyCells, numbered, emptyStore}
 use Rattle.replicas.specs.Replicas.{linkedWrites, accepts, nextPosition, applying, taking, answersDirect}
 use Rattle.switch.specs.Numbers.{slots, numberIn, counterIn, committedIn, slotObject, slotStamp}
-use Rattle.switch.specs.DirtySet.{firstSlot, secondSlot, thirdSlot, holdsObject, countsAbove, isFree, holdsAbove, freeSlot, slotFor, markAbove, lookedUp, nextStamp, marking, canMark, marked, isCompleted, clearedAt, completed, newSwitch, countedTo, countedMarks}
+use Rattle.slots.specs.{firstSlot, secondSlot, thirdSlot, holdsObject, countsAbove, isFree, holdsAbove, isCompleted}
+use Rattle.switch.specs.DirtySet.{freeSlot, slotFor, markAbove, lookedUp, nextStamp, marking, canMark, marked, clearedAt, completed, newSwitch, countedTo, countedMarks}
 use Rattle.waiting.specs.declared.Packet.{Packet}
 use Rattle.waiting.specs.Waiting.{WaitingList, waitingList, heldIn, held, blank, noneWait, lookAt, takesOut, leftBy, fits, afterTaking, adding, edited}
 use Rattle.protocol.specs.declared.Answer.{Answer}
@@ -22,7 +23,7 @@ use Rattle.protocol.specs.declared.Message.{Message}
 use Rattle.protocol.specs.declared.Message.the-variants.{UnstampedWrite, StampedWrite, NormalRead, Reply}
 use Rattle.protocol.specs.declared.Decision.{Decision}
 use Rattle.protocol.specs.declared.Step.the-variants.{BeginRead, BeginWrite, Deliver, Repeat}
-use Rattle.protocol.specs.Answers.{refusalNumber}
+use Rattle.protocol.specs.Answers.{refusalNumber, noFreshness}
 use Rattle.protocol.specs.Messages.{packetOf, messageOf, isUnstamped}
 use Rattle.protocol.specs.Decisions.{refusing, passing, overfull}
 use Rattle.protocol.specs.Delivery.{directRead, stampedWrite, deliveredMessage}
@@ -52,7 +53,7 @@ allHold n last (p ∷ l) = cond (eqb (p .number) n) (cond (allTrue (p .tests)) (
 -- the answer is the refusal with this number; 0 stands for a step that was done
 gives : Answer → ℕ → Bool
 gives Done n = eqb 0 n
-gives (Finished o v) n = eqb 0 n
+gives (Finished o v f) n = eqb 0 n
 gives (Refused r) n = eqb (refusalNumber r) n
 
 -- a machine with a lone replica, nothing written, no operation open, and these packets waiting
@@ -126,14 +127,14 @@ points =
     -- 'After P4, object 256 takes slot 4 of the third stage.'
     point 5 (eqb (slotFor switchOfP4 256) (32 + 4) ∷ canMark switchOfP4 256 ∷ []) ∷
     -- 'Object stamp (1,4): a direct read with (1,4) is answered, with (1,3) sent to the tail.'
-    point 6 (sends (readOfP6 (stampOf 1 4)) (Reply 7 9) ∷ sends (readOfP6 (stampOf 1 3)) (NormalRead 2 7 0) ∷ []) ∷
+    point 6 (sends (readOfP6 (stampOf 1 4)) (Reply 7 9 0 noFreshness) ∷ sends (readOfP6 (stampOf 1 3)) (NormalRead 2 7 0 0) ∷ []) ∷
     -- 'Completion (1,3) leaves the same object's mark (1,4) counting.'
     point 7 (eqb (lookedUp (completed switchOfP7 5 (stampOf 1 3)) 5) (stampOf 1 4) ∷ []) ∷
     -- 'Completion (1,7) of object 9 stops a mark (1,4) on object 5 from counting.'
     point 8 (eqb (lookedUp switchOfP7 5) (stampOf 1 4) ∷ eqb (countedMarks (completed switchOfP7 9 (stampOf 1 7))) 0 ∷ []) ∷
     -- 'With 64 waiting, repeating a reply gives 6; repeating an unstamped write gives 8.'
     point 9
-    (gives (answerTo (lone (copies 64 (Reply 1 9))) (Repeat 0)) 6 ∷
+    (gives (answerTo (lone (copies 64 (Reply 1 9 0 noFreshness))) (Repeat 0)) 6 ∷
     gives (answerTo (lone (copies 64 (UnstampedWrite 1 5 9))) (Repeat 0)) 8 ∷ []) ∷
     -- 'Lone replica, an acceptable stamped write delivered: 64 waiting gives 6; 63 waiting leaves 64.'
     point 10

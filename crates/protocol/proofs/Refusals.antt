@@ -10,8 +10,8 @@ use lib.ListN.{length}
 use borrow.Author.Tests.{eqb-true, eqb-false, leb-true, ltb-false, ne-eqb, le-ltb}
 use Rattle.limits.specs as limits
 use Rattle.operations.specs.{isOpen, lastGiven, roomToOpen}
-use Rattle.replicas.specs.Store.{liveCount}
-use Rattle.replicas.specs.Chain.{isLive, tailOf, allPermit}
+use Rattle.store.specs.{liveCount}
+use Rattle.chain.specs.{isLive, tailOf, allPermit}
 use Rattle.replicas.specs.Replicas.{accepts, pending, answersDirect}
 use Rattle.switch.specs.Numbers.{numberIn, directIn}
 use Rattle.switch.specs.DirtySet.{lookedUp, stampFor}
@@ -44,7 +44,7 @@ StepNumber n = (n ≡ 1) ⊎ ((3 ≤ n) × (n ≤ 13)) ⊎ (n ≡ 15)
 
 abbrev pub StepAnswer : Answer → Type 0
 StepAnswer a = (a ≡ Done)
-    ⊎ ((o : ℕ) × (v : ℕ) × (a ≡ Finished o v))
+    ⊎ ((o : ℕ) × (v : ℕ) × (f : ℕ) × (a ≡ Finished o v f))
     ⊎ ((r : Refusal) × (a ≡ Refused r) × StepNumber (refusalNumber r))
 
 -- the numbers of a step's refusals, as a test
@@ -55,7 +55,7 @@ isStepNumber n = cond (eqb n 1) true (cond (eqb n 15) true (cond (leb 3 n) (leb 
 -- was given
 abbrev SoundAnswer : Given → Step → Outcome → Answer → Type 0
 SoundAnswer g x u Done = Unit {0}
-SoundAnswer g x u (Finished o v) = IsDeliver x
+SoundAnswer g x u (Finished o v f) = IsDeliver x
 SoundAnswer g x u (Refused r) = when (isStepNumber (refusalNumber r)) (u ≡ keeping g (refusing r))
 
 -- an outcome of which that holds
@@ -106,9 +106,9 @@ module _ (g : Given) (x : Step) where
       (by-test (OfStored g x) (eqb r (tailOf (g .store))) (by-test (OfStored g x) (overfull (g .held) 1 2) refl tt) tt) tt
   deliver-sound at choice d (DirectRead r number t o y) =
       by-test (OfDecision g x) (isLive (g .store) r) (by-test (OfDecision g x) (answersDirect (g .store) r y number t) tt tt) tt
-  deliver-sound at choice d (NormalRead r o y) = by-test (OfDecision g x) (isLive (g .store) r) tt tt
+  deliver-sound at choice d (NormalRead r o y t) = by-test (OfDecision g x) (isLive (g .store) r) tt tt
   deliver-sound at choice d (Completion y t) = tt
-  deliver-sound at choice d (Reply o v) = by-test (OfOpened g x) (isOpen (g .opens) o) d tt
+  deliver-sound at choice d (Reply o v t f) = by-test (OfOpened g x) (isOpen (g .opens) o) d tt
   deliver-sound at choice d Unknown = tt
 
 -- every step, whatever packet stands at its position
@@ -181,12 +181,12 @@ module _ (m : Machine) (x : Step) where
     where
       go : (a : Answer) → answerTo m x ≡ a → StepAnswer (answerTo m x)
       go Done e = inl e
-      go (Finished o v) e = inr (inl (o, v, e))
+      go (Finished o v f) e = inr (inl (o, v, f, e))
       go (Refused r) e = inr (inr (r, e, step-number (refusalNumber r) (sound-refusal r e .0)))
 
   -- only a delivery finishes an operation
-  pub finished-by-deliver : (o v : ℕ) → answerTo m x ≡ Finished o v → IsDeliver x
-  finished-by-deliver o v e = sound (Finished o v) e
+  pub finished-by-deliver : (o v f : ℕ) → answerTo m x ≡ Finished o v f → IsDeliver x
+  finished-by-deliver o v f e = sound (Finished o v f) e
 
 -- a start that comes as a step is refused, so it changes nothing
 pub start-keeps : (m : Machine) (n : ℕ) → after m (Start n) ≡ m

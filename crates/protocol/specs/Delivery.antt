@@ -1,12 +1,13 @@
--- Document 01, 'What delivery does', rule by rule. The packet at position `at` leaves the list. w is the switch, s the store.
+-- Document 01, 'What delivery does', rule by rule, with document 02's Req 01. The packet at position `at` leaves the list. w is the switch, s the store.
 use mathlib.Core.Bool.{cond}
 use mathlib.Core.List.{List}
 use Prim.Native.Nat.{ℕ}
 use lib.Dec.{eqb}
 use Rattle.operations.specs.{isOpen, closing}
-use Rattle.replicas.specs.declared.Write.{Write}
-use Rattle.replicas.specs.Store.{valueAt}
-use Rattle.replicas.specs.Chain.{isLive, headOf, tailOf, chosenBy, allPermit}
+use Rattle.store.specs.declared.Write.{Write}
+use Rattle.store.specs.{valueAt, stampAt}
+use Rattle.stamp.specs.Stamps.{isAbove}
+use Rattle.chain.specs.{isLive, headOf, tailOf, chosenBy, allPermit}
 use Rattle.replicas.specs.Replicas.{accepts, taking, answersDirect}
 use Rattle.switch.specs.Numbers.{numberIn, committedIn, directIn}
 use Rattle.switch.specs.DirtySet.{lookedUp, marked, stampFor, completed}
@@ -16,6 +17,7 @@ use Rattle.protocol.specs.declared.Answer.the-variants.{Finished}
 use Rattle.protocol.specs.declared.Message.{Message}
 use Rattle.protocol.specs.declared.Message.the-variants.{UnstampedWrite, SwitchRead, StampedWrite, DirectRead, NormalRead, Completion, Reply, Unknown}
 use Rattle.protocol.specs.declared.Decision.{Decision}
+use Rattle.protocol.specs.Answers.{noFreshness, oldRead, newRead}
 use Rattle.protocol.specs.Messages.{packetOf}
 use Rattle.protocol.specs.Decisions.{Given, Outcome, Switched, Stored, Opened, switched, stored, opened, keeping, changingSwitch, changingStore, changingOpens}
 use Rattle.protocol.specs.Decisions.{deciding, takeOut, takeOutAddTwo, refusing, dropping, passing, overfull}
@@ -33,17 +35,18 @@ unstampedWrite w s at o x v =
 
 -- 'Read, to the switch. If direct reads are on and the object has no counting mark, it goes as a direct read with the switch's number and
 -- last-committed stamp, to the live replica at chain place (choice mod number of live replicas). Otherwise it goes as a normal read to the tail.'
+-- Req 01: 'A read that the switch sends to the tail while its object has a counting mark carries that stamp'; (0,0), which is no mark's, stands for none.
 unfoldable pub switchRead : List ℕ → List ℕ → ℕ → ℕ → ℕ → ℕ → Decision
 switchRead w s at choice o x =
     cond (directIn w)
     (cond (eqb (lookedUp w x) 0)
     (passing at (DirectRead (chosenBy s choice) (numberIn w) (committedIn w) o x))
-    (passing at (NormalRead (tailOf s) o x)))
-    (passing at (NormalRead (tailOf s) o x))
+    (passing at (NormalRead (tailOf s) o x (lookedUp w x))))
+    (passing at (NormalRead (tailOf s) o x (lookedUp w x)))
 
 -- 'The tail, on applying a write, sends a reply with the written value, then a completion with object and stamp.'
 abbrev pub answering : ℕ → Write → Edit
-answering at w = takeOutAddTwo at (packetOf (Reply (w .operation) (w .value))) (packetOf (Completion (w .object) (w .stamp)))
+answering at w = takeOutAddTwo at (packetOf (Reply (w .operation) (w .value) 0 noFreshness)) (packetOf (Completion (w .object) (w .stamp)))
 
 -- 'Stamped write, to a replica. Dropped if that replica is gone, if the stamp is not above its highest, or if the links hold 64. Otherwise it is applied
 -- and put in the link to the next replica. A lone replica acts as tail at the same time.'
@@ -60,12 +63,17 @@ stampedWrite s held at r w =
 unfoldable pub directRead : List ℕ → ℕ → ℕ → ℕ → ℕ → ℕ → ℕ → Decision
 directRead s at r number t o x =
     cond (isLive s r)
-    (cond (answersDirect s r x number t) (passing at (Reply o (valueAt s r x))) (passing at (NormalRead (tailOf s) o x)))
+    (cond (answersDirect s r x number t) (passing at (Reply o (valueAt s r x) 0 noFreshness)) (passing at (NormalRead (tailOf s) o x 0)))
     (dropping at)
 
--- 'Normal read. Dropped if the replica is gone, else answered.'
-unfoldable pub normalRead : List ℕ → ℕ → ℕ → ℕ → ℕ → Decision
-normalRead s at r o x = cond (isLive s r) (passing at (Reply o (valueAt s r x))) (dropping at)
+-- Req 01: '`old` if the value's stamp is below the one carried, else `new`'; of a read that carries none, neither
+unfoldable pub freshness : ℕ → ℕ → ℕ
+freshness stamp carried = cond (eqb carried 0) noFreshness (cond (isAbove carried stamp) oldRead newRead)
+
+-- 'Normal read. Dropped if the replica is gone, else answered.' Req 01: its reply carries the stamp that it carries
+unfoldable pub normalRead : List ℕ → ℕ → ℕ → ℕ → ℕ → ℕ → Decision
+normalRead s at r o x carried =
+    cond (isLive s r) (passing at (Reply o (valueAt s r x) carried (freshness (stampAt s r x) carried))) (dropping at)
 
 -- 'Completion, to the switch. A mark of that object with a stamp not above the completion's is cleared. Last-committed becomes the larger of the two.
 -- Direct reads are on from now.'
@@ -73,9 +81,9 @@ unfoldable pub completion : List ℕ → ℕ → ℕ → ℕ → Switched
 completion w at x t = switched (dropping at) (completed w x t)
 
 -- 'Reply. Finishes the operation if it is open; otherwise ignored.'
-unfoldable pub reply : List ℕ → ℕ → ℕ → ℕ → Opened
-reply opens at o v =
-    cond (isOpen opens o) (opened (record { answer = Finished o v; edit = takeOut at }) (closing opens o)) (opened (dropping at) opens)
+unfoldable pub reply : List ℕ → ℕ → ℕ → ℕ → ℕ → Opened
+reply opens at o v f =
+    cond (isOpen opens o) (opened (record { answer = Finished o v f; edit = takeOut at }) (closing opens o)) (opened (dropping at) opens)
 
 -- what delivery of a message does
 unfoldable pub deliveredMessage : Given → ℕ → ℕ → Message → Outcome
@@ -83,7 +91,7 @@ deliveredMessage g at choice (UnstampedWrite o x v) = changingSwitch g (unstampe
 deliveredMessage g at choice (SwitchRead o x) = keeping g (switchRead (g .switch) (g .store) at choice o x)
 deliveredMessage g at choice (StampedWrite r w) = changingStore g (stampedWrite (g .store) (g .held) at r w)
 deliveredMessage g at choice (DirectRead r number t o x) = keeping g (directRead (g .store) at r number t o x)
-deliveredMessage g at choice (NormalRead r o x) = keeping g (normalRead (g .store) at r o x)
+deliveredMessage g at choice (NormalRead r o x t) = keeping g (normalRead (g .store) at r o x t)
 deliveredMessage g at choice (Completion x t) = changingSwitch g (completion (g .switch) at x t)
-deliveredMessage g at choice (Reply o v) = changingOpens g (reply (g .opens) at o v)
+deliveredMessage g at choice (Reply o v t f) = changingOpens g (reply (g .opens) at o v f)
 deliveredMessage g at choice Unknown = keeping g (dropping at)

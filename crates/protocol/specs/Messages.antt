@@ -2,25 +2,25 @@
 use mathlib.Core.Bool.{Bool, true, false, cond}
 use Prim.Native.Nat.{ℕ}
 use lib.Dec.{eqb}
-use Rattle.replicas.specs.declared.Write.{Write}
+use Rattle.store.specs.declared.Write.{Write}
 use Rattle.waiting.specs.declared.Packet.{Packet}
 use Rattle.waiting.specs.Waiting.{blank}
 use Rattle.protocol.specs.declared.Message.{Message}
 use Rattle.protocol.specs.declared.Message.the-variants.{UnstampedWrite, SwitchRead, StampedWrite, DirectRead, NormalRead, Completion, Reply, Unknown}
 
-abbrev pub packet : ℕ → ℕ → ℕ → ℕ → ℕ → ℕ → ℕ → Packet
-packet kind replica number operation object value stamp =
-    record { kind = kind; replica = replica; number = number; operation = operation; object = object; value = value; stamp = stamp }
+abbrev pub packet : ℕ → ℕ → ℕ → ℕ → ℕ → ℕ → ℕ → ℕ → Packet
+packet kind replica number operation object value stamp freshness =
+    record { kind = kind; replica = replica; number = number; operation = operation; object = object; value = value; stamp = stamp; freshness = freshness }
 
 -- the packet that holds a message
 unfoldable pub packetOf : Message → Packet
-packetOf (UnstampedWrite o x v) = packet 1 0 0 o x v 0
-packetOf (SwitchRead o x) = packet 2 0 0 o x 0 0
-packetOf (StampedWrite r w) = packet 3 r 0 (w .operation) (w .object) (w .value) (w .stamp)
-packetOf (DirectRead r number t o x) = packet 4 r number o x 0 t
-packetOf (NormalRead r o x) = packet 5 r 0 o x 0 0
-packetOf (Completion x t) = packet 6 0 0 0 x 0 t
-packetOf (Reply o v) = packet 7 0 0 o 0 v 0
+packetOf (UnstampedWrite o x v) = packet 1 0 0 o x v 0 0
+packetOf (SwitchRead o x) = packet 2 0 0 o x 0 0 0
+packetOf (StampedWrite r w) = packet 3 r 0 (w .operation) (w .object) (w .value) (w .stamp) 0
+packetOf (DirectRead r number t o x) = packet 4 r number o x 0 t 0
+packetOf (NormalRead r o x t) = packet 5 r 0 o x 0 t 0
+packetOf (Completion x t) = packet 6 0 0 0 x 0 t 0
+packetOf (Reply o v t f) = packet 7 0 0 o 0 v t f
 packetOf Unknown = blank
 
 abbrev pub writeOf : Packet → Write
@@ -33,9 +33,9 @@ messageOf p =
     (cond (eqb (p .kind) 2) (SwitchRead (p .operation) (p .object))
     (cond (eqb (p .kind) 3) (StampedWrite (p .replica) (writeOf p))
     (cond (eqb (p .kind) 4) (DirectRead (p .replica) (p .number) (p .stamp) (p .operation) (p .object))
-    (cond (eqb (p .kind) 5) (NormalRead (p .replica) (p .operation) (p .object))
+    (cond (eqb (p .kind) 5) (NormalRead (p .replica) (p .operation) (p .object) (p .stamp))
     (cond (eqb (p .kind) 6) (Completion (p .object) (p .stamp))
-    (cond (eqb (p .kind) 7) (Reply (p .operation) (p .value)) Unknown))))))
+    (cond (eqb (p .kind) 7) (Reply (p .operation) (p .value) (p .stamp) (p .freshness)) Unknown))))))
 
 -- 'repeat of an unstamped write'
 unfoldable pub isUnstamped : Packet → Bool

@@ -6,9 +6,9 @@ use lib.Dec.{eqb, leb, ltb}
 use lib.ListN.{length}
 use Rattle.limits.specs as limits
 use Rattle.operations.specs.{lastGiven, noneOpen, isOpen, roomToOpen, opening, closing}
-use Rattle.replicas.specs.declared.Write.{Write}
-use Rattle.replicas.specs.Store.{liveCount}
-use Rattle.replicas.specs.Chain.{isLive, tailOf, permitting, removed, emptyStore}
+use Rattle.store.specs.declared.Write.{Write}
+use Rattle.store.specs.{liveCount}
+use Rattle.chain.specs.{isLive, tailOf, permitting, removed, emptyStore}
 use Rattle.replicas.specs.Replicas.{applying, pending, oldest}
 use Rattle.switch.specs.Numbers.{numberIn}
 use Rattle.switch.specs.DirtySet.{newSwitch, countedMarks}
@@ -24,6 +24,7 @@ use Rattle.protocol.specs.declared.Message.the-variants.{UnstampedWrite,
 use Rattle.protocol.specs.declared.Decision.{Decision}
 use Rattle.protocol.specs.declared.Step.{Step}
 use Rattle.protocol.specs.declared.Step.the-variants.{Start, BeginRead, BeginWrite, Deliver, Lose, Repeat, Advance, Replace, Tell, Remove, GiveUp}
+use Rattle.protocol.specs.Answers.{noFreshness}
 use Rattle.protocol.specs.Messages.{packetOf, messageOf, isUnstamped}
 use Rattle.protocol.specs.Decisions.{Given, given, Outcome, Switched, Stored, Opened, switched, stored, opened, keeping, changingSwitch, changingStore, changingOpens}
 use Rattle.protocol.specs.Decisions.{deciding, noEdit, addOne, addTwo, refusing, dropping, overfull}
@@ -104,7 +105,7 @@ repeated held p at =
 
 -- what the tail sends for a write
 abbrev pub sending : Write → Edit
-sending w = addTwo (packetOf (Reply (w .operation) (w .value))) (packetOf (Completion (w .object) (w .stamp)))
+sending w = addTwo (packetOf (Reply (w .operation) (w .value) 0 noFreshness)) (packetOf (Completion (w .object) (w .stamp)))
 
 -- 'this replica applies the oldest write of its incoming link, and passes it on unless it is the tail'. Order: 9, 10, 6
 unfoldable pub advancing : List ℕ → ℕ → ℕ → Stored

@@ -1,15 +1,17 @@
 // What the step machine is handed, what it answers, and what it decides between: types, the packets that hold messages, and the commonest decisions.
 // specs/ says what each step does.
+pub mod answers;
 pub mod decisions;
 pub mod messages;
 
+use limits::Freshness;
 use limits::Number;
 use limits::Object;
 use limits::Operation;
 use limits::Replica;
 use limits::Stamp;
 use limits::Value;
-use replicas::Write;
+use store::Write;
 use waiting::Edit;
 
 // Document 01, 'Steps and their records'. The fields have the widths that the records give them.
@@ -46,22 +48,23 @@ pub enum Refusal {
     BufferTooShort,
 }
 
-// A step was done; or done, and it finished an operation with a value; or refused.
+// A step was done; or done, and it finished an operation with a value and what a read says of a pending write; or refused.
 pub enum Answer {
     Done,
-    Finished(Operation, Value),
+    Finished(Operation, Value, Freshness),
     Refused(Refusal),
 }
 
-// A packet by its kind: document 01, 'What delivery does'.
+// A packet by its kind: document 01, 'What delivery does'. The stamp of a normal read and of a reply is that of the pending write that the read goes round, (0,0) where
+// there is none.
 pub enum Message {
     UnstampedWrite(Operation, Object, Value),
     SwitchRead(Operation, Object),
     StampedWrite(Replica, Write),
     DirectRead(Replica, Number, Stamp, Operation, Object),
-    NormalRead(Replica, Operation, Object),
+    NormalRead(Replica, Operation, Object, Stamp),
     Completion(Object, Stamp),
-    Reply(Operation, Value),
+    Reply(Operation, Value, Stamp, Freshness),
     Unknown,
 }
 

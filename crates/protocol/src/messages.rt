@@ -2,13 +2,14 @@
 ghost use mathlib.Core.Path.{_≡_};
 ghost use Rattle.protocol.specs.Messages.{packetOf, messageOf, isUnstamped, writeOf};
 use crate::Message;
+use limits::Freshness;
 use limits::Number;
 use limits::Object;
 use limits::Operation;
 use limits::Replica;
 use limits::Stamp;
 use limits::Value;
-use replicas::Write;
+use store::Write;
 use waiting::Packet;
 
 fn packet(
@@ -19,8 +20,9 @@ fn packet(
     object: Object,
     value: Value,
     stamp: Stamp,
+    freshness: Freshness,
 ) -> Packet
-    ensures { λ r. ⌜ r ≡ record { kind = kind; replica = replica; number = number; operation = operation; object = object; value = value; stamp = stamp } ⌝ }
+    ensures { λ r. ⌜ r ≡ record { kind = kind; replica = replica; number = number; operation = operation; object = object; value = value; stamp = stamp; freshness = freshness } ⌝ }
 {
     Packet {
         kind,
@@ -30,6 +32,7 @@ fn packet(
         object,
         value,
         stamp,
+        freshness,
     }
 }
 
@@ -38,13 +41,15 @@ pub fn packet_of(m: Message) -> Packet
     ensures { λ r. ⌜ r ≡ packetOf m ⌝ }
 {
     match m {
-        Message::UnstampedWrite(o, x, v) => packet(1, 0, 0, o, x, v, 0),
-        Message::SwitchRead(o, x) => packet(2, 0, 0, o, x, 0, 0),
-        Message::StampedWrite(r, w) => { packet(3, r, 0, w.operation, w.object, w.value, w.stamp) }
-        Message::DirectRead(r, number, t, o, x) => packet(4, r, number, o, x, 0, t),
-        Message::NormalRead(r, o, x) => packet(5, r, 0, o, x, 0, 0),
-        Message::Completion(x, t) => packet(6, 0, 0, 0, x, 0, t),
-        Message::Reply(o, v) => packet(7, 0, 0, o, 0, v, 0),
+        Message::UnstampedWrite(o, x, v) => packet(1, 0, 0, o, x, v, 0, 0),
+        Message::SwitchRead(o, x) => packet(2, 0, 0, o, x, 0, 0, 0),
+        Message::StampedWrite(r, w) => {
+            packet(3, r, 0, w.operation, w.object, w.value, w.stamp, 0)
+        }
+        Message::DirectRead(r, number, t, o, x) => packet(4, r, number, o, x, 0, t, 0),
+        Message::NormalRead(r, o, x, t) => packet(5, r, 0, o, x, 0, t, 0),
+        Message::Completion(x, t) => packet(6, 0, 0, 0, x, 0, t, 0),
+        Message::Reply(o, v, t, f) => packet(7, 0, 0, o, 0, v, t, f),
         Message::Unknown => Packet::blank(),
     }
 }
@@ -77,13 +82,13 @@ pub fn message_of(p: Packet) -> Message
         return Message::DirectRead(p.replica, p.number, p.stamp, p.operation, p.object);
     }
     if p.kind == 5 {
-        return Message::NormalRead(p.replica, p.operation, p.object);
+        return Message::NormalRead(p.replica, p.operation, p.object, p.stamp);
     }
     if p.kind == 6 {
         return Message::Completion(p.object, p.stamp);
     }
     if p.kind == 7 {
-        return Message::Reply(p.operation, p.value);
+        return Message::Reply(p.operation, p.value, p.stamp, p.freshness);
     }
     Message::Unknown
 }

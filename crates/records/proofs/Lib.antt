@@ -2,4 +2,3 @@
 pub mod Table
 pub mod Parts
 pub mod Round
-mod Walks

@@ -1,20 +1,16 @@
-// The records of document 01, 'Steps and their records': steps read from bytes, and written as bytes.
+// The records of document 01, 'Steps and their records': their table, and steps written as bytes. crates/reader reads them.
 ghost use mathlib.Core.Path.{_≡_};
 ghost use Prim.Native.Nat.{_+_};
 ghost use lib.Dec.{leb};
 
-mod cursor;
 mod kinds;
-mod reader;
 mod writer;
 
-pub use cursor::Reader;
-pub use cursor::read_at;
 pub use kinds::NO_STEP;
 pub use kinds::content_length;
+pub use kinds::kind_of;
 pub use kinds::kind_of_tag;
 use protocol::Step;
-pub use reader::record_at;
 pub use writer::record_length;
 pub use writer::write_at;
 
@@ -38,7 +34,7 @@ pub enum Written {
 }
 
 // Whether so many bytes from a position on lie within the size. No sum can wrap.
-fn within(size: usize, at: usize, count: usize) -> bool
+pub fn within(size: usize, at: usize, count: usize) -> bool
     ensures { λ r. ⌜ r ≡ leb (at + count) size ⌝ }
 {
     if at <= size {

@@ -13,12 +13,12 @@ use Rattle.lists.specs.{moves, listOf}
 use Rattle.lists.proofs.Closing.{length-moves}
 use Rattle.lists.proofs.Places.{listOf-same, getD-moves-other}
 use Rattle.stamp.specs.Stamps.{largerOf}
-use Rattle.replicas.specs.declared.Write.{Write}
-use Rattle.replicas.specs.Store.{highestCell, permitCell, appliedCell, entryCell, valueCell, stampCell, storeCells, liveCount, orderAt, members, rowOf, highestOf}
-use Rattle.replicas.specs.Store.{permittedBy, appliedBy, entryAt, valueAt, stampAt, logged, tabled, raised}
-use Rattle.replicas.specs.Chain.{chainPlace, isLive, permitting, removed}
+use Rattle.store.specs.declared.Write.{Write}
+use Rattle.store.specs.{highestCell, permitCell, appliedCell, entryCell, valueCell, stampCell, storeCells, liveCount, orderAt, members, rowOf, highestOf}
+use Rattle.store.specs.{permittedBy, appliedBy, entryAt, valueAt, stampAt, logged, tabled, raised}
+use Rattle.chain.specs.{chainPlace, isLive, permitting, removed}
 use Rattle.replicas.specs.Replicas.{nextPosition, applying}
-use Rattle.replicas.proofs.Members.{by-test, count-most}
+use Rattle.chain.proofs.Members.{by-test, count-most}
 
 -- as many cells as the code's type gives
 abbrev pub SizedStore : List ℕ → Type 0

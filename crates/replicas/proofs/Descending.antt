@@ -8,11 +8,11 @@ use native.Mathlib.Nat.{add-zero, le-trans}
 use native.Mathlib.Decide.{decLt, ℕ-discrete}
 use native.Mathlib.Omega.{arith}
 use Rattle.limits.specs as limits
-use Rattle.replicas.specs.declared.Write.{Write}
-use Rattle.replicas.specs.Store.{liveCount, members, rowOf, appliedBy, logged}
-use Rattle.replicas.specs.Chain.{chainPlace, isLive, memberAt, permitting, removed, emptyStore}
+use Rattle.store.specs.declared.Write.{Write}
+use Rattle.store.specs.{liveCount, members, rowOf, appliedBy, logged}
+use Rattle.chain.specs.{chainPlace, isLive, memberAt, permitting, removed, emptyStore}
 use Rattle.replicas.specs.Replicas.{accepts, applying, taking, pending, oldest}
-use Rattle.replicas.proofs.Members.{place-at, place-below, place-found, count-same, member-same, place-same, live-same}
+use Rattle.chain.proofs.Members.{place-at, place-below, place-found, count-same, member-same, place-same, live-same}
 use Rattle.replicas.proofs.Cells.{SizedStore, Named, row-apart, sized-logged, members-applying, applied-applying-same, applied-applying-other}
 use Rattle.replicas.proofs.Cells.{members-permitting, applied-permitting, members-logged, applied-logged, applied-removed}
 use Rattle.replicas.proofs.Shape.{removed-gone, count-removed, member-removed-before, member-removed-behind, count-empty, member-empty, applied-empty}

@@ -1,5 +1,3 @@
-pub mod AllOf
-pub mod Members
 pub mod Cells
 pub mod Shape
 pub mod Moves

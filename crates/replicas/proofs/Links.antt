@@ -9,12 +9,12 @@ use native.Mathlib.Decide.{ℕ-discrete, decLt}
 use native.Mathlib.Omega.{arith}
 use lib.ListN.{length, drop}
 use Rattle.limits.specs as limits
-use Rattle.replicas.specs.declared.Write.{Write}
-use Rattle.replicas.specs.Store.{liveCount, rowOf, appliedBy, entryAt, logged}
-use Rattle.replicas.specs.Chain.{chainPlace, isLive, memberAt, headOf, tailOf, removed}
+use Rattle.store.specs.declared.Write.{Write}
+use Rattle.store.specs.{liveCount, rowOf, appliedBy, entryAt, logged}
+use Rattle.chain.specs.{chainPlace, isLive, memberAt, headOf, tailOf, removed}
 use Rattle.replicas.specs.Replicas.{linkedWrites, accepts, applying, taking, pending, oldest}
 use Rattle.replicas.specs.Links.{entries, linkInto, successorOf, linksTo, allLinks}
-use Rattle.replicas.proofs.Members.{head-is, tail-is, member-in, in-live, place-below, below-live, place-at, place-found, count-same, member-same, place-same, live-same}
+use Rattle.chain.proofs.Members.{head-is, tail-is, member-in, in-live, place-below, below-live, place-at, place-found, count-same, member-same, place-same, live-same}
 use Rattle.replicas.proofs.Cells.{SizedStore, members-applying, entry-applying, applied-applying-same, applied-applying-other}
 use Rattle.replicas.proofs.Cells.{members-logged, applied-logged, sized-logged, entry-logged-same, entry-logged-other, positions-apart, applied-removed, entry-removed}
 use Rattle.replicas.proofs.Shape.{count-removed, member-removed-before, member-removed-behind}

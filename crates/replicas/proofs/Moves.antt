@@ -9,9 +9,9 @@ use borrow.Author.Tests.{eq-eqb, ne-eqb, eqb-true, ltb-true, leb-false}
 use Rattle.limits.specs as limits
 use Rattle.stamp.specs.Stamps.{isAbove}
 use Rattle.stamp.proofs.Laws.{above-true, above-false}
-use Rattle.replicas.specs.declared.Write.{Write}
-use Rattle.replicas.specs.Store.{highestOf, permittedBy, appliedBy, entryAt, stampAt, logged}
-use Rattle.replicas.specs.Chain.{chainPlace, isLive, memberAt, headOf, tailOf}
+use Rattle.store.specs.declared.Write.{Write}
+use Rattle.store.specs.{highestOf, permittedBy, appliedBy, entryAt, stampAt, logged}
+use Rattle.chain.specs.{chainPlace, isLive, memberAt, headOf, tailOf}
 use Rattle.replicas.specs.Replicas.{linkedWrites, accepts, applying, taking, pendingAt, pending, oldest, answersDirect}
 
 no-test : {A : Type 0} → false ≡ true → A

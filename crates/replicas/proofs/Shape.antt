@@ -11,9 +11,9 @@ use Rattle.limits.specs as limits
 use Rattle.lists.specs.{moves}
 use Rattle.lists.proofs.Closing.{length-moves}
 use Rattle.lists.proofs.Places.{getD-moves, getD-moves-other}
-use Rattle.replicas.specs.Store.{storeCells, valueCell, stampCell, liveCount, orderAt, rowOf, highestOf, permittedBy, appliedBy, valueAt, stampAt}
-use Rattle.replicas.specs.Chain.{chainPlace, isLive, memberAt, removed, emptyCells, numbered, emptyStore}
-use Rattle.replicas.proofs.Members.{count-most, member-order, member-past, place-below}
+use Rattle.store.specs.{storeCells, valueCell, stampCell, liveCount, orderAt, rowOf, highestOf, permittedBy, appliedBy, valueAt, stampAt}
+use Rattle.chain.specs.{chainPlace, isLive, memberAt, removed, emptyCells, numbered, emptyStore}
+use Rattle.chain.proofs.Members.{count-most, member-order, member-past, place-below}
 use Rattle.replicas.proofs.Cells.{SizedStore, row-below, within, value-from, stamp-is}
 
 -- ---- a removal

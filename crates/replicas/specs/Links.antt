@@ -3,10 +3,10 @@ use mathlib.Core.Bool.{cond}
 use mathlib.Core.List.{List, [], _∷_}
 use Prim.Native.Nat.{ℕ, zero, suc, _+_}
 use lib.ListN.{length}
-use Rattle.replicas.specs.Store.{liveCount, appliedBy, entryAt}
-use Rattle.replicas.specs.Chain.{chainPlace, isLive, memberAt}
+use Rattle.store.specs.{liveCount, appliedBy, entryAt}
+use Rattle.chain.specs.{chainPlace, isLive, memberAt}
 use Rattle.replicas.specs.Replicas.{pending}
-use Rattle.replicas.specs.declared.Write.{Write}
+use Rattle.store.specs.declared.Write.{Write}
 
 -- the k writes of the log from a position up, the oldest first
 unfoldable pub entries : List ℕ → ℕ → ℕ → List Write

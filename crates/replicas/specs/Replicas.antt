@@ -5,9 +5,9 @@ use Prim.Native.Nat.{ℕ, _+_, _-_}
 use lib.Dec.{eqb, leb, ltb}
 use Rattle.limits.specs as limits
 use Rattle.stamp.specs.Stamps.{isAbove, largerOf}
-use Rattle.replicas.specs.Store.{highestOf, permittedBy, appliedBy, entryAt, stampAt, logged, tabled, raised}
-use Rattle.replicas.specs.Chain.{chainPlace, isLive, memberAt, headOf, tailOf}
-use Rattle.replicas.specs.declared.Write.{Write}
+use Rattle.store.specs.{highestOf, permittedBy, appliedBy, entryAt, stampAt, logged, tabled, raised}
+use Rattle.chain.specs.{chainPlace, isLive, memberAt, headOf, tailOf}
+use Rattle.store.specs.declared.Write.{Write}
 
 -- 'All links together hold at most 64 writes': those that the head has applied and the tail has not
 unfoldable pub linkedWrites : List ℕ → ℕ

@@ -2,44 +2,14 @@
 // The head's applied writes are a log. Each replica has applied a front part of it, so a link holds what lies between two neighbours' parts.
 ghost use mathlib.Core.Path.{_≡_};
 ghost use Rattle.replicas.specs.Replicas.{linkedWrites, accepts, nextPosition, applying, taking, pendingAt, oldest, answersDirect};
-
-pub mod chain;
-pub mod store;
-
 use limits::LAST_POSITION;
 use limits::Number;
 use limits::Object;
-use limits::Operation;
 use limits::Position;
 use limits::Replica;
 use limits::Stamp;
-use limits::Value;
-
-// Where each thing lies in the store: specs/Store.antt has the same places.
-pub const LIVE: usize = 0;
-
-pub const ORDER: usize = 1;
-
-pub const HIGHEST: usize = 9;
-
-pub const PERMITS: usize = 17;
-
-pub const APPLIED: usize = 25;
-
-pub const ENTRIES: usize = 33;
-
-pub const VALUES: usize = 289;
-
-pub const STAMPS: usize = 8481;
-
-pub const CELLS: usize = 16673;
-
-pub struct Write {
-    pub operation: Operation,
-    pub object: Object,
-    pub value: Value,
-    pub stamp: Stamp,
-}
+use store::CELLS;
+use store::Write;
 
 fn linked(cells: &[u32; CELLS]) -> Position
     ensures { λ x. ⌜ x ≡ linkedWrites (now (cells .entry)) ⌝ }

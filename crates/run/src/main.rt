@@ -4,7 +4,7 @@ use libc::STDOUT_FILENO;
 
 fn print(input: &[u8]) {
     let mut switch = [0; switch::CELLS];
-    let mut store = [0; replicas::CELLS];
+    let mut store = [0; store::CELLS];
     let mut opens = [0; operations::CELLS];
     let mut out = io::large_buffer();
     let mut piece = runs::first_piece(input, &mut switch, &mut store, &mut opens, &mut out);

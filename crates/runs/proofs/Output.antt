@@ -10,11 +10,12 @@ use lib.ListN.{length, take, drop, replicate, length-append, take-append-drop}
 use lib.Seq.{length-take-le}
 use borrow.Author.Tests.{le-leb, lt-leb, lt-ltb, leb-true, leb-false}
 use Rattle.lines.specs.Text.{pasted, putIn}
+use Rattle.lines.proofs.Laws.{longest}
 use Rattle.lines.proofs.Text.{put-length, put-short, put-room, put-there, pasted-twice}
 use Rattle.limits.specs as limits
 use Rattle.switch.specs.Numbers.{switchCells}
 use Rattle.operations.specs.{noneOpen}
-use Rattle.replicas.specs.Chain.{emptyCells}
+use Rattle.chain.specs.{emptyCells}
 use Rattle.waiting.specs.declared.Packet.{Packet}
 use Rattle.waiting.specs.Waiting.{blank, noneWait}
 use Rattle.protocol.specs.Steps.{Machine, machine}
@@ -28,6 +29,10 @@ use Rattle.runs.specs.Contracts.{InUse, toPrint}
 use Rattle.turns.proofs.Filling.{goes-low, turned-stops, fewer-at-end}
 use Rattle.runs.proofs.Ends.{over-next, over-prints}
 use Rattle.runs.proofs.Whole.{printed-short, next-short, begins-short}
+
+-- the last place of a piece that has room for the longest line
+abbrev lastLine : ℕ
+lastLine = 65474
 
 -- ---- bytes at a place
 
@@ -136,13 +141,13 @@ abbrev Parted : ℕ → List ℕ → Standing → List ℕ → ℕ → Turned �
 Parted k input u b used t =
     (t .used ≤ length b) × (length (t .out) ≡ length b) × (take (t .used) (t .out) ++ joined (linesFrom (t .left) input (t .then)) ≡ take used b ++ joined (linesFrom k input u))
 
-pub turned-piece : (k stop : ℕ) (input : List ℕ) (u : Standing) (b : List ℕ) (used : ℕ) → stop + 58 ≤ length b → length b ≤ lastPlace → used ≤ length b → Parted k input u b used (turned k stop input u b used)
+pub turned-piece : (k stop : ℕ) (input : List ℕ) (u : Standing) (b : List ℕ) (used : ℕ) → stop + longest ≤ length b → length b ≤ lastPlace → used ≤ length b → Parted k input u b used (turned k stop input u b used)
 unfolding turned linesFrom joined
 turned-piece zero stop input u b used room small h = (h, refl, refl)
 turned-piece (suc k) stop input u b used room small h = go (goesOn (u .over) (suc k) used stop) refl (λ v b' n r s i. turned-piece k stop input v b' n r s i)
   where
     go : (t : Bool) → goesOn (u .over) (suc k) used stop ≡ t
-        → ((v : Standing) (b' : List ℕ) (n : ℕ) → stop + 58 ≤ length b' → length b' ≤ lastPlace → n ≤ length b' → Parted k input v b' n (turned k stop input v b' n))
+        → ((v : Standing) (b' : List ℕ) (n : ℕ) → stop + longest ≤ length b' → length b' ≤ lastPlace → n ≤ length b' → Parted k input v b' n (turned k stop input v b' n))
         → Parted (suc k) input u b used (cond t
         (turned k stop input (nextPrinted input u .then) (putIn b used (nextPrinted input u .line)) (placeAfter used (length (nextPrinted input u .line)))) (turnedTo u (suc k) b used))
     go false e later = (h, refl, refl)
@@ -156,7 +161,7 @@ turned-piece (suc k) stop input u b used room small h = go (goesOn (u .over) (su
         (omega (arith, part .0, long), part .1 ∙ long, part .2 ∙ ap (λ (l : List ℕ). l ++ rest) (put-there b used line fits) ∙ append-assoc (take used b) line rest)
 
 -- in the code's terms
-module _ (input : List ℕ) (stop : ℕ) (r : Run) (switch store opens : List ℕ) (row : List Packet) (b : List ℕ) (used : ℕ) (room : stop + 58 ≤ length b) (small : length b ≤ lastPlace) (h : used ≤ length b)
+module _ (input : List ℕ) (stop : ℕ) (r : Run) (switch store opens : List ℕ) (row : List Packet) (b : List ℕ) (used : ℕ) (room : stop + longest ≤ length b) (small : length b ≤ lastPlace) (h : used ≤ length b)
     (ran : Ran) (switch' store' opens' : List ℕ) (row' : List Packet) (b' : List ℕ)
     (g : Stands ran switch' store' opens' row' b' (turned (r .left) stop input (standsAs r switch store opens row) b used)) where
   parts : Parted (r .left) input (standsAs r switch store opens row) b used (turned (r .left) stop input (standsAs r switch store opens row) b used)
@@ -179,34 +184,44 @@ module _ (input switch store opens : List ℕ) (row : List Packet) (b : List ℕ
   pub first-parts : length b ≡ 65536 → row ≡ replicate limits.waiting blank → (begun : Ran) (switch₁ store₁ opens₁ b₁ : List ℕ)
       → Stands begun switch₁ store₁ opens₁ row b₁ (oneTurn (length input) b 0 (firstPrinted (lent row) input))
       → (ran : Ran) (switch₂ store₂ opens₂ : List ℕ) (row₂ : List Packet) (b₂ : List ℕ)
-      → Stands ran switch₂ store₂ opens₂ row₂ b₂ (turned (begun .run .left) 65478 input (standsAs (begun .run) switch₁ store₁ opens₁ row) b₁ (begun .used))
+      → Stands ran switch₂ store₂ opens₂ row₂ b₂ (turned (begun .run .left) lastLine input (standsAs (begun .run) switch₁ store₁ opens₁ row) b₁ (begun .used))
       → InUse (ran .used) b₂ × (take (ran .used) b₂ ++ toPrint input (ran .run) switch₂ store₂ opens₂ row₂ ≡ joined (linesOn (lent (replicate limits.waiting blank)) input))
   unfolding linesOn joined toPrint
   first-parts long blanks begun switch₁ store₁ opens₁ b₁ f ran switch₂ store₂ opens₂ row₂ b₂ g =
       let line = firstPrinted (lent row) input .line in
-      let short : length line ≤ 58 = begins-short (lent row) input in
+      let short : length line ≤ longest = begins-short (lent row) input in
       let place : begun .used ≡ 0 + length line = f .place ∙ place-is 0 (length line) (omega arith) in
       let wide : length b₁ ≡ 65536 = ap length (f .there) ∙ put-length b 0 line ∙ long in
-      let room : 65478 + 58 ≤ length b₁ = omega (arith, wide) in
+      let room : lastLine + longest ≤ length b₁ = omega (arith, wide) in
       let small : length b₁ ≤ lastPlace = omega (arith, wide) in
       let within : begun .used ≤ length b₁ = omega (arith, wide, place, short) in
       let there : take (begun .used) b₁ ≡ line = rw (place, f .there) (put-there b 0 line (omega (arith, long, short))) in
       let rest : toPrint input (begun .run) switch₁ store₁ opens₁ row ≡ joined (linesFrom (length input) input (firstPrinted (lent row) input .then)) = rw (f .stands, f .left) refl in (
-        piece-used input 65478 (begun .run) switch₁ store₁ opens₁ row b₁ (begun .used) room small within ran switch₂ store₂ opens₂ row₂ b₂ g,
-        piece-parts input 65478 (begun .run) switch₁ store₁ opens₁ row b₁ (begun .used) room small within ran switch₂ store₂ opens₂ row₂ b₂ g ∙ (λ j. there j ++ rest j)
+        piece-used input lastLine (begun .run) switch₁ store₁ opens₁ row b₁ (begun .used) room small within ran switch₂ store₂ opens₂ row₂ b₂ g,
+        piece-parts input lastLine (begun .run) switch₁ store₁ opens₁ row b₁ (begun .used) room small within ran switch₂ store₂ opens₂ row₂ b₂ g ∙ (λ j. there j ++ rest j)
             ∙ ap (λ (l : List Packet). firstPrinted (lent l) input .line ++ joined (linesFrom (length input) input (firstPrinted (lent l) input .then))) blanks,
       )
 
 -- the pieces that follow
 module _ (input : List ℕ) (r : Run) (switch store opens : List ℕ) (row : List Packet) (b : List ℕ) where
   pub next-parts : length b ≡ 65536 → (ran : Ran) (switch₁ store₁ opens₁ : List ℕ) (row₁ : List Packet) (b₁ : List ℕ)
-      → Stands ran switch₁ store₁ opens₁ row₁ b₁ (turned (r .left) 65478 input (standsAs r switch store opens row) b 0)
+      → Stands ran switch₁ store₁ opens₁ row₁ b₁ (turned (r .left) lastLine input (standsAs r switch store opens row) b 0)
       → InUse (ran .used) b₁ × (take (ran .used) b₁ ++ toPrint input (ran .run) switch₁ store₁ opens₁ row₁ ≡ toPrint input r switch store opens row) × (goesOn (r .over) (r .left) 0 0 ≡ true → ran .run .left < r .left)
   unfolding goesOn
   next-parts long ran switch₁ store₁ opens₁ row₁ b₁ g =
-      let room : 65478 + 58 ≤ length b = omega (arith, long) in
+      let room : lastLine + longest ≤ length b = omega (arith, long) in
       let small : length b ≤ lastPlace = omega (arith, long) in (
-        piece-used input 65478 r switch store opens row b 0 room small (omega arith) ran switch₁ store₁ opens₁ row₁ b₁ g,
-        piece-parts input 65478 r switch store opens row b 0 room small (omega arith) ran switch₁ store₁ opens₁ row₁ b₁ g,
-        λ e. rw (g .left) (fewer-at-end 65478 input r switch store opens row b 0 e),
+        piece-used input lastLine r switch store opens row b 0 room small (omega arith) ran switch₁ store₁ opens₁ row₁ b₁ g,
+        piece-parts input lastLine r switch store opens row b 0 room small (omega arith) ran switch₁ store₁ opens₁ row₁ b₁ g,
+        λ e. rw (g .left) (fewer-at-end lastLine input r switch store opens row b 0 e),
       )
+
+-- where no piece follows, nothing is left to print
+pub nothing-left : (input : List ℕ) (r : Run) (switch store opens : List ℕ) (row : List Packet) → goesOn (r .over) (r .left) 0 0 ≡ false → toPrint input r switch store opens row ≡ []
+unfolding toPrint standsAs linesFrom joined goesOn
+nothing-left input r switch store opens row e = go (r .over) (r .left) refl refl e
+  where
+    go : (over : Bool) (k : ℕ) → r .over ≡ over → r .left ≡ k → goesOn over k 0 0 ≡ false → joined (linesFrom (r .left) input (standsAs r switch store opens row)) ≡ []
+    go true k o l f = over-prints (r .left) input (standsAs r switch store opens row) o
+    go false zero o l f = rw l refl
+    go false (suc k) o l f = absurd (subst T (rw (lt-ltb 0 (suc k) (omega arith)) at f) tt)

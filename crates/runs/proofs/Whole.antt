@@ -15,44 +15,44 @@ use Rattle.protocol.specs.Steps.{Machine}
 use Rattle.records.specs.declared.Next.{Next}
 use Rattle.records.specs.Records.{nextAt}
 use Rattle.lines.specs.Lines.{noLine}
-use Rattle.lines.proofs.Laws.{refusal-length, answer-length}
+use Rattle.lines.proofs.Laws.{longest, refusal-length, answer-length}
 use Rattle.turns.specs.Turns.{Standing, Printed, continued, readNext, nextPrinted, stopped, startedWith, firstRead, firstPrinted}
 use Rattle.runs.specs.Runs.{linesFrom, joined, linesOn, untouched, printed}
 use Rattle.runs.proofs.Ends.{over-prints, read-ahead, read-ahead-first}
 
--- no line has more than 58 bytes
-line-short : (u : Standing) (f : Next) → length (continued u f .line) ≤ 58
+-- no line has more than `longest` bytes
+line-short : (u : Standing) (f : Next) → length (continued u f .line) ≤ longest
 line-short u (Next.Record x n) = answer-length _ _ _ _
 line-short u Next.End = omega arith
 line-short u Next.Malformed = refusal-length _ _
 
-pub next-short : (input : List ℕ) (u : Standing) → length (nextPrinted input u .line) ≤ 58
+pub next-short : (input : List ℕ) (u : Standing) → length (nextPrinted input u .line) ≤ longest
 unfolding nextPrinted
 next-short input u = line-short u (readNext input (u .over) (u .at))
 
-first-short : (m : Machine) (f : Next) → length (firstRead m f .line) ≤ 58
+first-short : (m : Machine) (f : Next) → length (firstRead m f .line) ≤ longest
 unfolding stopped startedWith
 first-short m (Next.Record x n) = answer-length _ _ _ _
 first-short m Next.End = refusal-length _ _
 first-short m Next.Malformed = refusal-length _ _
 
-pub begins-short : (m : Machine) (input : List ℕ) → length (firstPrinted m input .line) ≤ 58
+pub begins-short : (m : Machine) (input : List ℕ) → length (firstPrinted m input .line) ≤ longest
 unfolding firstPrinted stopped
 begins-short m input = go (ltb limits.input (length input))
   where
-    go : (t : Bool) → length (cond t (stopped m (noLine 0 (refusalNumber InputTooLong))) (firstRead m (nextAt input 0)) .line) ≤ 58
+    go : (t : Bool) → length (cond t (stopped m (noLine 0 (refusalNumber InputTooLong))) (firstRead m (nextAt input 0)) .line) ≤ longest
     go true = refusal-length _ _
     go false = first-short m (nextAt input 0)
 
 -- each record of the input is at least four bytes long, and the line of a malformed one is the last
-lines-short : (k : ℕ) (input : List ℕ) (u : Standing) → u .at ≤ length input → 4 * length (joined (linesFrom k input u)) ≤ 58 * (length input - u .at) + 232
+lines-short : (k : ℕ) (input : List ℕ) (u : Standing) → u .at ≤ length input → 4 * length (joined (linesFrom k input u)) ≤ longest * (length input - u .at) + 4 * longest
 unfolding linesFrom joined nextPrinted
 lines-short zero input u within = omega arith
 lines-short (suc k) input u within = go (readNext input (u .over) (u .at)) refl (lines-short k input)
   where
     go : (f : Next) → readNext input (u .over) (u .at) ≡ f
-        → ((v : Standing) → v .at ≤ length input → 4 * length (joined (linesFrom k input v)) ≤ 58 * (length input - v .at) + 232)
-        → 4 * length (continued u f .line ++ joined (linesFrom k input (continued u f .then))) ≤ 58 * (length input - u .at) + 232
+        → ((v : Standing) → v .at ≤ length input → 4 * length (joined (linesFrom k input v)) ≤ longest * (length input - v .at) + 4 * longest)
+        → 4 * length (continued u f .line ++ joined (linesFrom k input (continued u f .then))) ≤ longest * (length input - u .at) + 4 * longest
     go (Next.Record x n) e later =
         let p = read-ahead input (u .over) (u .at) n x e in
         omega (arith, length-append (continued u (Next.Record x n) .line) (joined (linesFrom k input (continued u (Next.Record x n) .then))), line-short u (Next.Record x n), later (continued u (Next.Record x n) .then) (p .1), p .0, p .1)

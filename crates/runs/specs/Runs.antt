@@ -7,7 +7,7 @@ use lib.ListN.{length, replicate}
 use Rattle.limits.specs as limits
 use Rattle.switch.specs.Numbers.{switchCells}
 use Rattle.operations.specs.{noneOpen}
-use Rattle.replicas.specs.Chain.{emptyCells}
+use Rattle.chain.specs.{emptyCells}
 use Rattle.waiting.specs.Waiting.{blank, noneWait}
 use Rattle.protocol.specs.Steps.{Machine, machine}
 use Rattle.lines.specs.Text.{pasted}

@@ -18,7 +18,7 @@ use waiting::Packet;
 // Bytes of a piece of the output, and the last place of it that has room for the longest line.
 pub const PIECE: usize = 65536;
 
-const LAST_LINE: usize = 65478;
+const LAST_LINE: usize = 65474;
 
 // How a run stands after some records, the place after their lines, and the places of the packets.
 pub struct Piece {
@@ -51,7 +51,7 @@ pub fn print_piece(
     run: Run,
     packets: [Packet; WAITING],
     switch: &mut [u32; switch::CELLS],
-    store: &mut [u32; replicas::CELLS],
+    store: &mut [u32; store::CELLS],
     opens: &mut [u32; operations::CELLS],
     out: &mut [u8],
     used: usize,
@@ -61,7 +61,7 @@ pub fn print_piece(
         (turned (run .left) stop (now (input .entry)) (standsAs run (now (switch .entry)) (now (store .entry)) (now (opens .entry)) packets) (now (out .entry)) used) ⌝ }
 {
     let mut row = packets;
-    let ran = turns::turns(input, run, switch, store, opens, &mut row, out, used, stop);
+    let ran = replay::records(input, run, switch, store, opens, &mut row, out, used, stop);
     with_packets(ran, row)
 }
 
@@ -70,7 +70,7 @@ pub fn print(input: &[u8], out: &mut [u8]) -> usize
     ensures { λ r. ⌜ (r ≡ length (printed (now (input .entry)))) × (now (out .exit) ≡ holding (now (out .entry)) (linesOf (now (input .entry)))) ⌝ }
 {
     let mut switch = [0; switch::CELLS];
-    let mut store = [0; replicas::CELLS];
+    let mut store = [0; store::CELLS];
     let mut opens = [0; operations::CELLS];
     let ran = turns::first(input, &mut switch, &mut store, &mut opens, &mut *out);
     let all = print_piece(
@@ -100,7 +100,7 @@ pub fn has_more(run: Run) -> bool
 pub fn first_piece(
     input: &[u8],
     switch: &mut [u32; switch::CELLS],
-    store: &mut [u32; replicas::CELLS],
+    store: &mut [u32; store::CELLS],
     opens: &mut [u32; operations::CELLS],
     out: &mut [u8; PIECE],
 ) -> Piece
@@ -128,7 +128,7 @@ pub fn next_piece(
     run: Run,
     packets: [Packet; WAITING],
     switch: &mut [u32; switch::CELLS],
-    store: &mut [u32; replicas::CELLS],
+    store: &mut [u32; store::CELLS],
     opens: &mut [u32; operations::CELLS],
     out: &mut [u8; PIECE],
 ) -> Piece

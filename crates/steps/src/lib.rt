@@ -11,10 +11,10 @@ use limits::Value;
 use protocol::Decision;
 use protocol::Message;
 use protocol::Refusal;
+use protocol::answers::NONE;
 use protocol::decisions;
 use protocol::messages;
-use replicas::Write;
-use replicas::chain;
+use store::Write;
 use switch::cells;
 use waiting::Edit;
 use waiting::Packet;
@@ -88,13 +88,13 @@ fn send(w: Write) -> Edit
     ensures { λ r. ⌜ r ≡ sending w ⌝ }
 {
     decisions::add_two(
-        messages::packet_of(Message::Reply(w.operation, w.value)),
+        messages::packet_of(Message::Reply(w.operation, w.value, 0, NONE)),
         messages::packet_of(Message::Completion(w.object, w.stamp)),
     )
 }
 
 // A replica applies the oldest write of its incoming link.
-pub fn advance(store: &mut [u32; replicas::CELLS], held: usize, r: Replica) -> Decision
+pub fn advance(store: &mut [u32; store::CELLS], held: usize, r: Replica) -> Decision
     ensures { λ d. ⌜ (d ≡ advancing (now (store .entry)) held r .decision)
         × (now (store .exit) ≡ advancing (now (store .entry)) held r .store) ⌝ }
 {
@@ -131,11 +131,7 @@ pub fn replace(switch: &mut [u32; switch::CELLS], number: Number) -> Decision
 }
 
 // The replica permits the present switch.
-pub fn tell(
-    switch: &[u32; switch::CELLS],
-    store: &mut [u32; replicas::CELLS],
-    r: Replica,
-) -> Decision
+pub fn tell(switch: &[u32; switch::CELLS], store: &mut [u32; store::CELLS], r: Replica) -> Decision
     ensures { λ d. ⌜ (d ≡ telling (now (switch .entry)) (now (store .entry)) r .decision)
         × (now (store .exit) ≡ telling (now (switch .entry)) (now (store .entry)) r .store) ⌝ }
 {
@@ -146,7 +142,7 @@ pub fn tell(
     decisions::done(decisions::no_edit())
 }
 
-pub fn remove(store: &mut [u32; replicas::CELLS], r: Replica) -> Decision
+pub fn remove(store: &mut [u32; store::CELLS], r: Replica) -> Decision
     ensures { λ d. ⌜ (d ≡ removing (now (store .entry)) r .decision)
         × (now (store .exit) ≡ removing (now (store .entry)) r .store) ⌝ }
 {

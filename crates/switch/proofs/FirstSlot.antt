@@ -4,7 +4,8 @@ use mathlib.Core.Bool.{Bool, true, false, cond}
 use mathlib.Core.Logic.{_⊎_, inl, inr}
 use Prim.Native.Nat.{ℕ, _<_, _≤_}
 use native.Mathlib.Omega.{arith}
-use Rattle.switch.specs.DirtySet.{firstSlot, secondSlot, thirdSlot, firstOf}
+use Rattle.slots.specs.{firstSlot, secondSlot, thirdSlot}
+use Rattle.switch.specs.DirtySet.{firstOf}
 
 -- one of the object's own slots
 abbrev pub Own : ℕ → ℕ → Type 0

@@ -13,7 +13,8 @@ use borrow.Author.Tests.{eqb-false, ne-eqb, ltb-true}
 use Rattle.stamp.specs.Stamps.{stampOf, isAbove, largerOf}
 use Rattle.stamp.proofs.Laws.{lt-above, le-above, above-false}
 use Rattle.switch.specs.Numbers.{slots, switchCells, numberIn, counterIn, committedIn, directIn, slotObject, slotStamp}
-use Rattle.switch.specs.DirtySet.{firstSlot, secondSlot, thirdSlot, holdsObject, slotFor, nextStamp, marking, canMark, marked, stampFor, isCompleted, clearedAt, completed, newSwitch, countsAbove, countedTo, countedMarks}
+use Rattle.slots.specs.{firstSlot, secondSlot, thirdSlot, holdsObject, isCompleted, countsAbove}
+use Rattle.switch.specs.DirtySet.{slotFor, nextStamp, marking, canMark, marked, stampFor, clearedAt, completed, newSwitch, countedTo, countedMarks}
 use Rattle.switch.proofs.FirstSlot.{slots-rise}
 
 -- as many numbers as the code's type gives

@@ -12,7 +12,8 @@ use borrow.Author.Tests.{eqb-true, eq-eqb, ne-eqb}
 use Rattle.stamp.specs.Stamps.{stampOf, isAbove, largerOf}
 use Rattle.stamp.proofs.Laws.{lt-above, le-above, above-true, above-false, larger-is}
 use Rattle.switch.specs.Numbers.{slots, numberIn, counterIn, committedIn, slotObject, slotStamp}
-use Rattle.switch.specs.DirtySet.{firstSlot, secondSlot, thirdSlot, holdsObject, countsAbove, holdsAt, isFree, holdsAbove, firstOf, freeSlot, slotFor, markAbove, lookedUp, nextStamp, marking, marked, stampFor, completed, newSwitch}
+use Rattle.slots.specs.{firstSlot, secondSlot, thirdSlot, holdsObject, countsAbove, isFree, holdsAbove}
+use Rattle.switch.specs.DirtySet.{holdsAt, firstOf, freeSlot, slotFor, markAbove, lookedUp, nextStamp, marking, marked, stampFor, completed, newSwitch}
 use Rattle.switch.proofs.FirstSlot.{Own, Least, NonePasses, own-below, first-same, first-gives, first-at, first-none}
 use Rattle.switch.proofs.Laws.{SizedSwitch, MarkedCases, marked-cases, next-stamp-used, next-above-committed, object-marking, stamp-marking, object-unmarked, stamp-unmarked, marked-committed}
 use Rattle.switch.proofs.Laws.{completed-committed, object-completed, stamp-completed, new-committed, stamp-new}

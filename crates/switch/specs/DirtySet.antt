@@ -1,44 +1,18 @@
 -- The switch of document 01: 'The marks (dirty set)', and what a completion and a replacement do to it. w is the list of the switch's numbers.
 -- A mark is the field's dirty-set entry: an object with a write on its way, and the stamp of that write.
-use mathlib.Core.Bool.{Bool, true, false, cond}
+use mathlib.Core.Bool.{Bool, false, cond}
 use mathlib.Core.List.{List}
-use Prim.Native.Nat.{ℕ, zero, suc, _+_, _/_, _%_}
+use Prim.Native.Nat.{ℕ, zero, suc, _+_}
 use lib.ListN.{set, replicate}
 use lib.Dec.{eqb, ltb}
 use Rattle.limits.specs as limits
-use Rattle.stamp.specs.Stamps.{stampOf, isAbove, largerOf}
+use Rattle.slots.specs.{firstSlot, secondSlot, thirdSlot, holdsObject, countsAbove, isFree, holdsAbove, isCompleted}
+use Rattle.stamp.specs.Stamps.{stampOf, largerOf}
 use Rattle.switch.specs.Numbers.{numberCell, counterCell, committedCell, directCell, slots, objectCell, slotStampCell, switchCells}
 use Rattle.switch.specs.Numbers.{numberIn, counterIn, committedIn, slotObject, slotStamp}
 
--- 'Object o has slot o mod 16 in the first stage, (o div 16) mod 16 in the second, o div 64 in the third.'
-unfoldable pub firstSlot : ℕ → ℕ
-firstSlot o = o % 16
-
-unfoldable pub secondSlot : ℕ → ℕ
-secondSlot o = 16 + o / 16 % 16
-
--- up to object 1,023 o div 64 is below 16; the remainder makes it total
-unfoldable pub thirdSlot : ℕ → ℕ
-thirdSlot o = 32 + o / 64 % 16
-
--- 'A slot holds an object and a stamp, or nothing.' The stamp (0,0), which no write bears, stands for nothing.
-unfoldable pub holdsObject : ℕ → ℕ → ℕ → Bool
-holdsObject object stamp o = cond (eqb stamp 0) false (eqb object o)
-
--- 'A mark counts while its stamp is above the last-committed stamp'
-unfoldable pub countsAbove : ℕ → ℕ → Bool
-countsAbove stamp committed = isAbove stamp committed
-
 abbrev pub holdsAt : List ℕ → ℕ → ℕ → Bool
 holdsAt w o i = holdsObject (slotObject w i) (slotStamp w i) o
-
--- 'otherwise its slot is free'
-unfoldable pub isFree : ℕ → ℕ → Bool
-isFree stamp committed = cond (countsAbove stamp committed) false true
-
--- the slot holds a mark of the object whose stamp is above c
-unfoldable pub holdsAbove : ℕ → ℕ → ℕ → ℕ → Bool
-holdsAbove object stamp o c = cond (holdsObject object stamp o) (countsAbove stamp c) false
 
 -- what is found at the first of the object's three slots that passes the test, and `none` where no slot passes
 abbrev pub firstOf : {A : Type 0} → ℕ → (ℕ → Bool) → (ℕ → A) → A → A
@@ -79,10 +53,6 @@ marked w o = cond (canMark w o) (marking w o (slotFor w o)) w
 -- the stamp that the write gets: (0,0), which is no write's, where it is dropped
 unfoldable pub stampFor : List ℕ → ℕ → ℕ
 stampFor w o = cond (canMark w o) (nextStamp w) 0
-
--- 'A mark of that object with a stamp not above the completion's is cleared.'
-unfoldable pub isCompleted : ℕ → ℕ → ℕ → ℕ → Bool
-isCompleted object stamp o t = cond (holdsObject object stamp o) (cond (isAbove stamp t) false true) false
 
 unfoldable pub clearedAt : List ℕ → ℕ → ℕ → ℕ → List ℕ
 clearedAt w o t i = cond (isCompleted (slotObject w i) (slotStamp w i) o t) (set w (slotStampCell i) 0) w

@@ -3,7 +3,8 @@ ghost use mathlib.Core.Path.{_≡_};
 ghost use Prim.Native.Nat.{_+_, _<_};
 ghost use Rattle.switch.specs.Numbers.{numberIn, counterIn, committedIn, directIn, slotObject, slotStamp};
 ghost use lib.ListN.{set};
-ghost use Rattle.switch.specs.DirtySet.{holdsAt, holdsAbove, freeSlot, slotFor, lookedUp, marked, stampFor, clearedAt, completed, countedMarks};
+ghost use Rattle.slots.specs.{holdsAbove};
+ghost use Rattle.switch.specs.DirtySet.{holdsAt, freeSlot, slotFor, lookedUp, marked, stampFor, clearedAt, completed, countedMarks};
 ghost use Rattle.switch.specs.Values.{switchOf};
 use crate::CELLS;
 use crate::COMMITTED;
@@ -14,18 +15,18 @@ use crate::OBJECTS;
 use crate::SLOTS;
 use crate::STAMPS;
 use crate::Switch;
-use crate::slots::first_slot;
-use crate::slots::holds;
-use crate::slots::holds_above;
-use crate::slots::is_completed;
-use crate::slots::is_free;
-use crate::slots::second_slot;
-use crate::slots::third_slot;
 use limits::Counter;
 use limits::LAST_COUNTER;
 use limits::Number;
 use limits::Object;
 use limits::Stamp;
+use slots::first_slot;
+use slots::holds;
+use slots::holds_above;
+use slots::is_completed;
+use slots::is_free;
+use slots::second_slot;
+use slots::third_slot;
 
 // ---- single numbers
 

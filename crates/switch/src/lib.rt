@@ -5,7 +5,6 @@ ghost use Rattle.switch.specs.DirtySet.{completed, newSwitch};
 ghost use Rattle.switch.specs.Values.{switchOf, markedSwitch};
 
 pub mod cells;
-mod slots;
 
 use limits::Number;
 use limits::Object;

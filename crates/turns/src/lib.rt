@@ -1,4 +1,4 @@
-// The run of one input, record by record: each record's step is done, and its line goes into a lent buffer.
+// The run of one input, record by record: what is read, and the line that its step gives. crates/replay does the steps.
 ghost use mathlib.Core.Path.{_≡_};
 ghost use Prim.Native.Nat.{ℕ, _-_};
 ghost use mathlib.Core.List.{List};
@@ -10,12 +10,13 @@ ghost use Rattle.protocol.specs.Steps.{machine};
 ghost use Rattle.protocol.specs.declared.Refusal.the-variants.{Format, InputTooLong};
 ghost use Rattle.lines.specs.Lines.{noLine};
 ghost use Rattle.lines.specs.Text.{putIn};
-ghost use Rattle.turns.specs.Turns.{nextNumber, readNext, nextPrinted, replicasOf, stopped, startedWith, firstPrinted};
-ghost use Rattle.turns.specs.Contracts.{placeAfter, goesOn, turned, standsAs, Stands, oneTurn, Concludes, turnOf, goingOn, overRun, concluded};
+ghost use Rattle.turns.specs.Turns.{nextNumber, readNext, replicasOf, stopped, startedWith, firstPrinted};
+ghost use Rattle.turns.specs.Contracts.{placeAfter, goesOn, Stands, oneTurn, Concludes, turnOf, goingOn, overRun, concluded};
 use limits::INPUT;
 use protocol::Refusal;
 use protocol::Step;
 use protocol::Stepped;
+use protocol::answers;
 use records::Next;
 use waiting::Packet;
 
@@ -40,9 +41,9 @@ pub struct Ran {
 }
 
 // What is read, and the step that the machine is handed.
-struct Turn {
-    found: Next,
-    step: Step,
+pub struct Turn {
+    pub found: Next,
+    pub step: Step,
 }
 
 // ---- numbers
@@ -83,7 +84,7 @@ fn read_next(input: &[u8], over: bool, at: usize) -> Next
     if over {
         return Next::End;
     }
-    records::read_at(input, at)
+    reader::read_at(input, at)
 }
 
 // Where no step is read, the machine is handed one that it refuses, so that it changes nothing.
@@ -103,7 +104,7 @@ fn turn_of(found: Next) -> Turn
     }
 }
 
-fn look(input: &[u8], over: bool, at: usize) -> Turn
+pub fn look(input: &[u8], over: bool, at: usize) -> Turn
     ensures { λ r. ⌜ r ≡ turnOf (readNext (now (input .entry)) over at) ⌝ }
 {
     turn_of(read_next(input, over, at))
@@ -152,13 +153,13 @@ fn put_malformed(out: &mut [u8], used: usize, number: u32) -> usize
         &mut *out,
         used,
         number,
-        lines::refusal_number(Refusal::Format),
+        answers::refusal_number(Refusal::Format),
     );
     place_after(used, n)
 }
 
 // The run after what was read, whose step gave `done`.
-fn conclude(run: Run, found: Next, done: Stepped, out: &mut [u8], used: usize) -> Ran
+pub fn conclude(run: Run, found: Next, done: Stepped, out: &mut [u8], used: usize) -> Ran
     ensures { λ r. ⌜ Concludes r (now (out .exit)) (now (out .entry)) used (concluded run found done) ⌝ }
 {
     match found {
@@ -175,26 +176,6 @@ fn conclude(run: Run, found: Next, done: Stepped, out: &mut [u8], used: usize) -
             }
         }
     }
-}
-
-// The next record of a run: its step is done, and its line goes into the buffer at the place `used`.
-fn next(
-    input: &[u8],
-    run: Run,
-    switch: &mut [u32; switch::CELLS],
-    store: &mut [u32; replicas::CELLS],
-    opens: &mut [u32; operations::CELLS],
-    packets: &mut [Packet],
-    out: &mut [u8],
-    used: usize,
-) -> Ran
-    ensures { λ r. ⌜ Stands r (now (switch .exit)) (now (store .exit)) (now (opens .exit)) (now (packets .exit)) (now (out .exit))
-        (oneTurn (run .left - 1) (now (out .entry)) used (nextPrinted (now (input .entry))
-        (standsAs run (now (switch .entry)) (now (store .entry)) (now (opens .entry)) (now (packets .entry))))) ⌝ }
-{
-    let turn = look(input, run.over, run.at);
-    let done = machine::step(switch, store, opens, packets, run.count, turn.step);
-    conclude(run, turn.found, done, out, used)
 }
 
 // ---- the first record
@@ -222,7 +203,7 @@ fn stop(out: &mut [u8], number: u32, why: Refusal, turns: usize) -> Ran
     ensures { λ r. ⌜ ((switch store opens : List ℕ) (row : List Packet) → Stands r switch store opens row (now (out .exit))
         (oneTurn turns (now (out .entry)) 0 (stopped (machine switch store opens (noneWait row)) (noLine number (refusalNumber why))))) ⌝ }
 {
-    let n = lines::put_refusal(&mut *out, 0, number, lines::refusal_number(why));
+    let n = lines::put_refusal(&mut *out, 0, number, answers::refusal_number(why));
     let run = Run {
         count: 0,
         at: 0,
@@ -242,7 +223,7 @@ fn start_with(
     at: usize,
     turns: usize,
     switch: &mut [u32; switch::CELLS],
-    store: &mut [u32; replicas::CELLS],
+    store: &mut [u32; store::CELLS],
     opens: &mut [u32; operations::CELLS],
     out: &mut [u8],
 ) -> Ran
@@ -269,7 +250,7 @@ fn start_with(
 pub fn first(
     input: &[u8],
     switch: &mut [u32; switch::CELLS],
-    store: &mut [u32; replicas::CELLS],
+    store: &mut [u32; store::CELLS],
     opens: &mut [u32; operations::CELLS],
     out: &mut [u8],
 ) -> Ran
@@ -280,7 +261,7 @@ pub fn first(
     if INPUT < turns {
         return stop(&mut *out, 0, Refusal::InputTooLong, turns);
     }
-    match records::read_at(input, 0) {
+    match reader::read_at(input, 0) {
         Next::Record(x, at) => start_with(
             replicas_of(x),
             at,
@@ -295,8 +276,6 @@ pub fn first(
     }
 }
 
-// ---- the records that follow
-
 // Whether another record is read.
 pub fn goes_on(over: bool, left: usize, used: usize, stop: usize) -> bool
     ensures { λ r. ⌜ r ≡ goesOn over left used stop ⌝ }
@@ -308,29 +287,4 @@ pub fn goes_on(over: bool, left: usize, used: usize, stop: usize) -> bool
         return used <= stop;
     }
     false
-}
-
-// The records that follow, until the run is over or the place is past `stop`: their lines go into the buffer, one after the other, from the place `used` on.
-pub fn turns(
-    input: &[u8],
-    run: Run,
-    switch: &mut [u32; switch::CELLS],
-    store: &mut [u32; replicas::CELLS],
-    opens: &mut [u32; operations::CELLS],
-    packets: &mut [Packet],
-    out: &mut [u8],
-    used: usize,
-    stop: usize,
-) -> Ran
-    ensures { λ r. ⌜ Stands r (now (switch .exit)) (now (store .exit)) (now (opens .exit)) (now (packets .exit)) (now (out .exit))
-        (turned (run .left) stop (now (input .entry)) (standsAs run (now (switch .entry)) (now (store .entry)) (now (opens .entry)) (now (packets .entry))) (now (out .entry)) used) ⌝ }
-{
-    let mut run = run;
-    let mut used = used;
-    while goes_on(run.over, run.left, used, stop) {
-        let ran = next(input, run, switch, store, opens, packets, out, used);
-        run = ran.run;
-        used = ran.used;
-    }
-    Ran { run, used }
 }

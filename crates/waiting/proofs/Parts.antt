@@ -2,6 +2,7 @@
 use mathlib.Core.Path.{_≡_, sym, subst}
 use mathlib.Core.List.{List}
 use lib.Dec.{T as Holds}
+use Prim.Native.Nat.{ℕ}
 use mir.Syntax.{Ty, Body, skip, seq, assign, block, loop, cond, switch, exit, return, call, named, mut, w64, tyInt, tyUnit, tyRef}
 use mir.Val.{Val, vunit, hasTy, WT}
 use denote.Memory.{pointee}
@@ -68,6 +69,10 @@ vals = LL.vals T.the-type T′.the-laws
 
 abbrev pub val : Packet → Val
 val = LL.val T.the-type T′.the-laws
+
+-- how many bytes a packet has
+abbrev pub bytes : ℕ
+bytes = 24
 
 abbrev pub word : Ty
 word = tyInt w64

@@ -15,7 +15,7 @@ use Rattle.waiting.specs.declared.Packet.{Packet}
 use Rattle.waiting.specs.declared.Edit.{Edit}
 use Rattle.waiting.specs.declared.Plan.{Plan}
 use Rattle.waiting.specs.Waiting.{WaitingList, waitingList, blank, heldIn, takesOut, leftBy, fits, afterTaking, adding, edited}
-use Rattle.waiting.specs.Plans.{still, moving, planOf, carried}
+use Rattle.waiting.specs.Plans.{still, moving, planned, planOf, carried}
 
 -- past the end `set` changes nothing
 pub set-past : (l : List Packet) (i : ℕ) (p : Packet) → length l ≤ i → l ≡ set l i p
@@ -31,18 +31,6 @@ left-taken count e t = (rw t, at-held (e .take) t)
     at-held : (b : Bool) → cond b (ltb (e .at) (heldIn count)) false ≡ true → e .at < heldIn count
     at-held true s = ltb-true (e .at) (heldIn count) s
     at-held false s = absurd (let z : _≡_ {A = ℕ} 0 1 = cc in omega arith)
-
--- the moves of a plan
-abbrev moved : List Packet → ℕ → Edit → List Packet
-moved l n e = moves blank l (cond (takesOut n e) (e .at) 0) (cond (takesOut n e) (leftBy n e) 0 - cond (takesOut n e) (e .at) 0)
-
-plan-moves : (l : List Packet) (n : ℕ) (e : Edit) → afterTaking (waitingList l n) e ≡ moved l n e
-unfolding afterTaking moves
-plan-moves l n e = go (takesOut n e) refl
-  where
-    go : (t : Bool) → takesOut n e ≡ t → cond (takesOut n e) (moves blank l (e .at) (heldIn n - 1 - e .at)) l ≡ moved l n e
-    go true t = rw t (ap (λ (k : ℕ). moves blank l (e .at) (k - e .at)) (sym (left-taken n e t .0)))
-    go false t = rw t
 
 -- the packets that a plan puts
 plan-adds : (l : List Packet) (k m : ℕ) (e : Edit) → k ≡ length l → m + e .add ≤ k → adding l m e ≡
@@ -90,32 +78,56 @@ fits-more left add h = go (leb add (limits.waiting - left)) refl
     go false e = e ∙ sym (lt-leb (left + add) limits.waiting (omega (arith, leb-false add (limits.waiting - left) e)))
 
 -- what moves lies in the row
+planned-within : (length count from last left add : ℕ) → from ≤ last → last ≤ limits.waiting - 1 →
+    (planned length count from last left add .from ≤ planned length count from last left add .last) × (planned length count from last left add .last ≤ length - 1)
+unfolding planned
+planned-within length count from last left add ordered most = go (fits length left add) refl
+  where
+    go : (f : Bool) → fits length left add ≡ f →
+        (cond f (moving length from last left add) (still length count) .from ≤ cond f (moving length from last left add) (still length count) .last) ×
+        (cond f (moving length from last left add) (still length count) .last ≤ length - 1)
+    go false f = (omega arith, omega arith)
+    go true f = (ordered, omega (arith, fits-places length left add f .1))
+
 pub plan-within : (length count : ℕ) (e : Edit) → (planOf length count e .from ≤ planOf length count e .last) × (planOf length count e .last ≤ length - 1)
 unfolding planOf heldIn
-plan-within length count e = go (fits length (leftBy count e) (e .add)) refl (takesOut count e) refl
+plan-within length count e = go (takesOut count e) refl
   where
-    go : (f : Bool) → fits length (leftBy count e) (e .add) ≡ f → (t : Bool) → takesOut count e ≡ t →
-        (cond f (moving length count e) (still length count) .from ≤ cond f (moving length count e) (still length count) .last) ×
-        (cond f (moving length count e) (still length count) .last ≤ length - 1)
-    go false f t s = (omega arith, omega arith)
-    go true f false s = rw s (omega arith, omega arith)
-    go true f true s =
-        let at = left-taken count e s in
-        let most = fits-places length (leftBy count e) (e .add) f in
-        rw s (omega (arith, at .0, at .1), omega (arith, at .0, most .1))
+    go : (t : Bool) → takesOut count e ≡ t →
+        (cond t (planned length count (e .at) (heldIn count - 1) (heldIn count - 1) (e .add)) (planned length count 0 0 count (e .add)) .from ≤
+        cond t (planned length count (e .at) (heldIn count - 1) (heldIn count - 1) (e .add)) (planned length count 0 0 count (e .add)) .last) ×
+        (cond t (planned length count (e .at) (heldIn count - 1) (heldIn count - 1) (e .add)) (planned length count 0 0 count (e .add)) .last ≤ length - 1)
+    go true t = planned-within length count (e .at) (heldIn count - 1) (heldIn count - 1) (e .add) (omega (arith, left-taken count e t .1)) (omega arith)
+    go false t = planned-within length count 0 0 count (e .add) (omega arith) (omega arith)
 
 -- a whole plan
+planned-edits : (l : List Packet) (n from last left : ℕ) (e : Edit) →
+    cond (fits (length l) left (e .add)) (waitingList (adding (moves blank l from (last - from)) left e) (left + e .add)) (waitingList l n) ≡
+    waitingList (carried l (planned (length l) n from last left (e .add)) e) (planned (length l) n from last left (e .add) .count)
+unfolding planned
+planned-edits l n from last left e = go (fits (length l) left (e .add)) refl
+  where
+    go : (t : Bool) → fits (length l) left (e .add) ≡ t →
+        cond t (waitingList (adding (moves blank l from (last - from)) left e) (left + e .add)) (waitingList l n) ≡
+        waitingList (carried l (cond t (moving (length l) from last left (e .add)) (still (length l) n)) e)
+        (cond t (moving (length l) from last left (e .add)) (still (length l) n) .count)
+    go true f =
+        ap (λ (r : List Packet). waitingList r (left + e .add))
+        (plan-adds (moves blank l from (last - from)) (length l) left e (sym (length-moves blank l from (last - from)))
+        (omega (arith, fits-places (length l) left (e .add) f)))
+    go false f = ap (λ (r : List Packet). waitingList r n) (still-keeps l n e)
+
 pub plan-edits : (l : List Packet) (n : ℕ) (e : Edit) →
     edited (waitingList l n) e ≡ waitingList (carried l (planOf (length l) n e) e) (planOf (length l) n e .count)
-unfolding edited planOf
-plan-edits l n e = go (fits (length l) (leftBy n e) (e .add)) refl
+unfolding edited planOf leftBy afterTaking moves
+plan-edits l n e = go (takesOut n e)
   where
-    go : (t : Bool) → fits (length l) (leftBy n e) (e .add) ≡ t →
-        cond t (waitingList (adding (afterTaking (waitingList l n) e) (leftBy n e) e) (leftBy n e + e .add)) (waitingList l n) ≡
-        waitingList (carried l (cond t (moving (length l) n e) (still (length l) n)) e) (cond t (moving (length l) n e) (still (length l) n) .count)
-    go true f =
-        let long : length (moved l n e) ≡ length l = length-moves blank l _ _ in
-        ap (λ (r : List Packet). waitingList r (leftBy n e + e .add))
-        (ap (λ (r : List Packet). adding r (leftBy n e) e) (plan-moves l n e) ∙
-        plan-adds (moved l n e) (length l) (leftBy n e) e (sym long) (omega (arith, fits-places (length l) (leftBy n e) (e .add) f)))
-    go false f = ap (λ (r : List Packet). waitingList r n) (still-keeps l n e)
+    go : (t : Bool) →
+        cond (fits (length l) (cond t (heldIn n - 1) n) (e .add))
+        (waitingList (adding (cond t (moves blank l (e .at) (heldIn n - 1 - e .at)) l) (cond t (heldIn n - 1) n) e) (cond t (heldIn n - 1) n + e .add))
+        (waitingList l n) ≡
+        waitingList
+        (carried l (cond t (planned (length l) n (e .at) (heldIn n - 1) (heldIn n - 1) (e .add)) (planned (length l) n 0 0 n (e .add))) e)
+        (cond t (planned (length l) n (e .at) (heldIn n - 1) (heldIn n - 1) (e .add)) (planned (length l) n 0 0 n (e .add)) .count)
+    go true = planned-edits l n (e .at) (heldIn n - 1) (heldIn n - 1) e
+    go false = planned-edits l n 0 0 n e

@@ -8,24 +8,23 @@ use Rattle.lists.specs.{moves}
 use Rattle.waiting.specs.declared.Packet.{Packet}
 use Rattle.waiting.specs.declared.Edit.{Edit}
 use Rattle.waiting.specs.declared.Plan.{Plan}
-use Rattle.waiting.specs.Waiting.{blank, takesOut, leftBy, fits}
+use Rattle.waiting.specs.Waiting.{blank, heldIn, takesOut, fits}
 
 -- nothing moves and nothing comes: at the row's end nothing is put
 abbrev pub still : ℕ → ℕ → Plan
 still length count = record { from = 0; last = 0; place = length; next = length; count = count }
 
--- an edit that fits
-abbrev pub moving : ℕ → ℕ → Edit → Plan
-moving length count e = record {
-  from = cond (takesOut count e) (e .at) 0;
-  last = cond (takesOut count e) (leftBy count e) 0;
-  place = cond (leb 1 (e .add)) (leftBy count e) length;
-  next = cond (leb 2 (e .add)) (leftBy count e + 1) length;
-  count = leftBy count e + e .add;
-}
+-- the packets after `from` move, up to `last`, and `left` are left, to which `add` come
+abbrev pub moving : ℕ → ℕ → ℕ → ℕ → ℕ → Plan
+moving length from last left add =
+    record { from = from; last = last; place = cond (leb 1 add) left length; next = cond (leb 2 add) (left + 1) length; count = left + add }
+
+unfoldable pub planned : ℕ → ℕ → ℕ → ℕ → ℕ → ℕ → Plan
+planned length count from last left add = cond (fits length left add) (moving length from last left add) (still length count)
 
 unfoldable pub planOf : ℕ → ℕ → Edit → Plan
-planOf length count e = cond (fits length (leftBy count e) (e .add)) (moving length count e) (still length count)
+planOf length count e =
+    cond (takesOut count e) (planned length count (e .at) (heldIn count - 1) (heldIn count - 1) (e .add)) (planned length count 0 0 count (e .add))
 
 -- the row that a plan leaves
 abbrev pub carried : List Packet → Plan → Edit → List Packet

@@ -5,8 +5,9 @@ ghost use mathlib.Core.Bool.{cond};
 ghost use Prim.Native.Nat.{_-_, _≤_};
 ghost use lib.ListN.{length, set};
 ghost use Rattle.lists.specs.{moves};
-ghost use Rattle.waiting.specs.Waiting.{blank, waitingList, heldIn, takesOut, leftBy, fits, lookAt, edited};
-ghost use Rattle.waiting.specs.Plans.{planOf};
+ghost use Rattle.waiting.specs.Waiting.{blank, waitingList, heldIn, takesOut, fits, lookAt, edited};
+ghost use Rattle.waiting.specs.Plans.{still, planned, planOf};
+use limits::Freshness;
 use limits::Number;
 use limits::Object;
 use limits::Operation;
@@ -25,6 +26,7 @@ pub struct Packet {
     pub object: Object,
     pub value: Value,
     pub stamp: Stamp,
+    pub freshness: Freshness,
 }
 
 // What a step does to the list: the packet at `at` goes out if `take` says so, then `add` of the two packets come to the end.
@@ -59,6 +61,7 @@ impl Packet {
             object: 0,
             value: 0,
             stamp: 0,
+            freshness: 0,
         }
     }
 }
@@ -90,16 +93,7 @@ fn takes_out(count: usize, e: Edit) -> bool
     false
 }
 
-// How many are left once a packet went out, or none did.
-fn left_by(count: usize, e: Edit) -> usize
-    ensures { λ r. ⌜ r ≡ leftBy count e ⌝ }
-{
-    if takes_out(count, e) {
-        return held(count) - 1;
-    }
-    count
-}
-
+// Whether 64 places are lent and no more than 64 packets wait once `add` have come to the `left` that are left.
 fn fits(length: usize, left: usize, add: usize) -> bool
     ensures { λ r. ⌜ r ≡ fits length left add ⌝ }
 {
@@ -112,27 +106,43 @@ fn fits(length: usize, left: usize, add: usize) -> bool
     add <= WAITING - left
 }
 
+// Nothing moves and nothing comes: at the end of the slice nothing is put.
+fn still(length: usize, count: usize) -> Plan
+    ensures { λ r. ⌜ r ≡ still length count ⌝ }
+{
+    Plan {
+        from: 0,
+        last: 0,
+        place: length,
+        next: length,
+        count,
+    }
+}
+
+// The packets after `from` move, up to `last`, and `left` are left, to which `add` come.
+fn plan_from(length: usize, count: usize, from: usize, last: usize, left: usize, add: usize) -> Plan
+    ensures { λ r. ⌜ r ≡ planned length count from last left add ⌝ }
+{
+    if !fits(length, left, add) {
+        return still(length, count);
+    }
+    Plan {
+        from,
+        last,
+        place: choose(1 <= add, left, length),
+        next: choose(2 <= add, left + 1, length),
+        count: left + add,
+    }
+}
+
 fn plan_of(length: usize, count: usize, e: Edit) -> Plan
     ensures { λ r. ⌜ r ≡ planOf length count e ⌝ }
 {
-    let left = left_by(count, e);
-    if !fits(length, left, e.add) {
-        return Plan {
-            from: 0,
-            last: 0,
-            place: length,
-            next: length,
-            count,
-        };
+    if takes_out(count, e) {
+        let left = held(count) - 1;
+        return plan_from(length, count, e.at, left, left, e.add);
     }
-    let out = takes_out(count, e);
-    Plan {
-        from: choose(out, e.at, 0),
-        last: choose(out, left, 0),
-        place: choose(1 <= e.add, left, length),
-        next: choose(2 <= e.add, left + 1, length),
-        count: left + e.add,
-    }
+    plan_from(length, count, 0, 0, count, e.add)
 }
 
 // ---- the lent slice
@@ -156,16 +166,21 @@ fn put(packets: &mut [Packet], place: usize, p: Packet)
     }
 }
 
-// The packets after place `from`, up to place `last`, each move down one place.
+// The packets after place `from`, up to place `last`, each move down one place: by twos, and then the last one, once more where it has moved already.
 fn close_up(packets: &mut [Packet], from: usize, last: usize)
     requires { ⌜ (from ≤ last) × (last ≤ length (now packets) - 1) ⌝ }
     ensures { λ _. ⌜ now (packets .exit) ≡ moves blank (now (packets .entry)) from (last - from) ⌝ }
 {
-    let mut i = from;
-    while i < last {
-        packets[i] = packets[i + 1];
-        i += 1;
+    if last <= from {
+        return;
     }
+    let mut i = from;
+    while i + 2 <= last {
+        packets[i] = packets[i + 1];
+        packets[i + 1] = packets[i + 2];
+        i += 2;
+    }
+    packets[last - 1] = packets[last];
 }
 
 // A whole edit; the count after it is handed back.

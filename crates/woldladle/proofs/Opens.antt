@@ -10,7 +10,7 @@ use lib.ListN.{length}
 use Rattle.limits.specs as limits
 use Rattle.operations.specs.{lastGiven, noneOpen, isOpen, roomToOpen, opening, closing}
 use Rattle.operations.proofs.Laws.{SizedOpens, sized-none, sized-opening, sized-closing, none-open, OpenOnce, once-none, once-opening, once-closing, open-before, open-after-closing, last-opening, last-closing}
-use Rattle.replicas.specs.Chain.{isLive, tailOf, allPermit}
+use Rattle.chain.specs.{isLive, tailOf, allPermit}
 use Rattle.replicas.specs.Replicas.{accepts, answersDirect}
 use Rattle.switch.specs.Numbers.{numberIn, directIn}
 use Rattle.switch.specs.DirtySet.{lookedUp, stampFor}
@@ -28,6 +28,7 @@ use Rattle.protocol.specs.Decisions.{Given, Outcome, Switched, Stored, Opened, 
 use Rattle.protocol.specs.Delivery.{stamping, unstampedWrite, switchRead, stampedWrite, directRead, normalRead, completion, reply, deliveredMessage}
 use Rattle.protocol.specs.Steps.{Machine, givenBy, positionOf, isMalformed, beginOperation, delivered, givingUp, decided, decidedIn, answerTo, after, startRefused, startOpens}
 use Rattle.protocol.proofs.Refusals.{finished-by-deliver}
+use Rattle.protocol.proofs.Finished.{finished-by-reply}
 
 -- the open numbers are told apart, and lie between 1 and the last that was given
 pub record Counted (l : List ℕ) : Type 0 where
@@ -94,9 +95,9 @@ module _ (g : Given) (c : Counted (g .opens)) where
   counted-message at choice (SwitchRead o x) = c
   counted-message at choice (StampedWrite r w) = c
   counted-message at choice (DirectRead r number t o x) = c
-  counted-message at choice (NormalRead r o x) = c
+  counted-message at choice (NormalRead r o x t) = c
   counted-message at choice (Completion x t) = c
-  counted-message at choice (Reply o v) = by-test (λ (u : Opened). Counted (u .opens)) (isOpen (g .opens) o) (counted-closing c o) (λ shut. c)
+  counted-message at choice (Reply o v t f) = by-test (λ (u : Opened). Counted (u .opens)) (isOpen (g .opens) o) (counted-closing c o) (λ shut. c)
   counted-message at choice Unknown = c
 
   counted-decided : (p : Packet) (x : Step) → Counted (decided g p x .opens)
@@ -123,43 +124,8 @@ counted-step m x c =
     both P (isMalformed x) c
     (both P (ltb (length (m .waiting .packets)) limits.waiting) c (counted-decided (givenBy m) c (lookAt (m .waiting .packets) (positionOf x)) x))
 
--- ---- an operation that finishes is open
-
--- the answer finishes no operation that is not open
-abbrev FromOpen : List ℕ → Answer → Type 0
-FromOpen l Done = Unit {0}
-FromOpen l (Finished o v) = isOpen l o ≡ true
-FromOpen l (Refused r) = Unit {0}
-
-abbrev Decides : List ℕ → Decision → Type 0
-Decides l d = FromOpen l (d .answer)
-
-open-message : (g : Given) (at choice : ℕ) (q : Message) → Decides (g .opens) (deliveredMessage g at choice q .decision)
-unfolding deliveredMessage stamping unstampedWrite switchRead stampedWrite directRead normalRead completion reply refusing dropping passing
-open-message g at choice (UnstampedWrite o x v) =
-    both (λ (u : Switched). Decides (g .opens) (u .decision)) (allPermit (g .store) (numberIn (g .switch))) (both (Decides (g .opens)) (eqb (stampFor (g .switch) x) 0) tt tt) tt
-open-message g at choice (SwitchRead o x) = both (Decides (g .opens)) (directIn (g .switch)) (both (Decides (g .opens)) (eqb (lookedUp (g .switch) x) 0) tt tt) tt
-open-message g at choice (StampedWrite r w) =
-    let P : Stored → Type 0 = λ u. Decides (g .opens) (u .decision) in
-    both P (accepts (g .store) r (w .stamp)) (both P (eqb r (tailOf (g .store))) (both P (overfull (g .held) 1 2) tt tt) tt) tt
-open-message g at choice (DirectRead r number t o x) =
-    both (Decides (g .opens)) (isLive (g .store) r) (both (Decides (g .opens)) (answersDirect (g .store) r x number t) tt tt) tt
-open-message g at choice (NormalRead r o x) = both (Decides (g .opens)) (isLive (g .store) r) tt tt
-open-message g at choice (Completion x t) = tt
-open-message g at choice (Reply o v) = by-test (λ (u : Opened). Decides (g .opens) (u .decision)) (isOpen (g .opens) o) (λ still. still) (λ shut. tt)
-open-message g at choice Unknown = tt
-
-open-delivery : (m : Machine) (at choice : ℕ) → FromOpen (m .opens) (answerTo m (Deliver at choice))
-unfolding answerTo decidedIn isMalformed decided delivered refusing dropping
-open-delivery m at choice =
-    let P : Outcome → Type 0 = λ u. Decides (m .opens) (u .decision) in
-    let p = lookAt (m .waiting .packets) (positionOf (Deliver at choice)) in
-    both P (ltb (length (m .waiting .packets)) limits.waiting) tt
-    (both P (leb (givenBy m .held) at) tt (both P (leb limits.objects (p .object)) tt (open-message (givenBy m) at choice (messageOf p))))
-
--- so an operation that finishes has a number from 1 on
-pub finished-from-1 : (m : Machine) (x : Step) → Counted (m .opens) → (o v : ℕ) → answerTo m x ≡ Finished o v → 1 ≤ o
-finished-from-1 m x c o v e =
-    let d = finished-by-deliver m x o v e in
-    let f = ap (answerTo m) (sym (d .2)) ∙ e in
-    c .from-1 o (subst (FromOpen (m .opens)) f (open-delivery m (d .0) (d .1))) .0
+-- an operation that finishes is open, so it has a number from 1 on
+pub finished-from-1 : (m : Machine) (x : Step) → Counted (m .opens) → (o v f : ℕ) → answerTo m x ≡ Finished o v f → 1 ≤ o
+finished-from-1 m x c o v f e =
+    let d = finished-by-deliver m x o v f e in
+    c .from-1 o (finished-by-reply m (d .0) (d .1) o v f (ap (answerTo m) (sym (d .2)) ∙ e) .is-open) .0

@@ -14,9 +14,9 @@ use denote.Laws.{Is}
 use denote.Memory.{mem}
 use denote.Ref.{RefT}
 use denote.Struct.Laws as LL
-use Rattle.woldladle.specs.declared.Session.{Session}
-use Rattle.woldladle.proofs.Session as T
-use Rattle.woldladle.proofs.Session.Laws as T′
+use Rattle.sessions.specs.declared.Session.{Session}
+use Rattle.sessions.proofs.Session as T
+use Rattle.sessions.proofs.Session.Laws as T′
 
 -- the machine values of a session
 abbrev pub session-vals : Session → List Val

@@ -21,13 +21,14 @@ use Rattle.protocol.proofs.Refusals.{start-cases}
 use Rattle.records.specs.declared.Found.{Found}
 use Rattle.records.specs.Records.{recordAt}
 use Rattle.lines.specs.Lines.{lineOf}
-use Rattle.woldladle.specs.declared.Session.{Session}
-use Rattle.woldladle.specs.Calls.{refusalIn, operationIn, valueIn, sessionStarted, wholeStep, askedBy, sessionAfter, answerFrom, lineFor}
+use Rattle.sessions.specs.declared.Session.{Session}
+use Rattle.sessions.specs.{refusalIn, operationIn, valueIn, freshnessIn, sessionStarted, wholeStep, askedBy, sessionAfter}
+use Rattle.woldladle.specs.Calls.{answerFrom, lineFor}
 use Rattle.woldladle.proofs.Opens.{Counted, finished-from-1}
 
 -- the line of a session, as record k
 abbrev pub lineIn : ℕ → Session → List ℕ
-lineIn k u = lineFor k (u .refusal) (u .operation) (u .value) (u .waiting) (u .marks)
+lineIn k u = lineFor k (u .refusal) (u .operation) (u .value) (u .freshness) (u .waiting) (u .marks)
 
 -- no refusal has number 0
 numbered : (r : Refusal) → eqb (refusalNumber r) 0 ≡ false
@@ -48,11 +49,11 @@ numbered InputTooLong = refl
 numbered BufferTooShort = refl
 
 -- an answer's numbers give its line, where it finishes no operation 0
-line-of : (k : ℕ) (a : Answer) (waiting marks : ℕ) → ((o v : ℕ) → a ≡ Finished o v → 1 ≤ o) →
-    lineFor k (refusalIn a) (operationIn a) (valueIn a) waiting marks ≡ lineOf k a (heldIn waiting) marks
+line-of : (k : ℕ) (a : Answer) (waiting marks : ℕ) → ((o v f : ℕ) → a ≡ Finished o v f → 1 ≤ o) →
+    lineFor k (refusalIn a) (operationIn a) (valueIn a) (freshnessIn a) waiting marks ≡ lineOf k a (heldIn waiting) marks
 unfolding lineFor answerFrom lineOf
 line-of k Done waiting marks h = refl
-line-of k (Finished o v) waiting marks h = rw (ne-eqb o 0 (λ e. omega (arith, h o v refl, e)))
+line-of k (Finished o v f) waiting marks h = rw (ne-eqb o 0 (λ e. omega (arith, h o v f refl, e)))
 line-of k (Refused r) waiting marks h = rw (numbered r)
 
 -- the step of a record that fills the lent bytes

@@ -13,13 +13,13 @@ use Rattle.protocol.specs.declared.Refusal.the-variants.{Replicas}
 use Rattle.protocol.specs.declared.Step.{Step}
 use Rattle.protocol.specs.Steps.{Machine, machine, answerTo, after, steppedBy, startRefused, startAnswer, startSwitch, startStore, startOpens}
 use Rattle.protocol.proofs.Refusals.{refused-unchanged, start-cases}
-use Rattle.woldladle.specs.declared.Session.{Session}
-use Rattle.woldladle.specs.Calls.{refusalIn, askedBy, sessionStarted, sessionAfter}
+use Rattle.sessions.specs.declared.Session.{Session}
+use Rattle.sessions.specs.{refusalIn, askedBy, sessionStarted, sessionAfter}
 
 -- an answer with a number is a refusal
 kept : (m : Machine) (x : Step) (a : Answer) → answerTo m x ≡ a → refusalIn a ≢ 0 → after m x ≡ m
 kept m x Done e h = absurd (h refl)
-kept m x (Finished o v) e h = absurd (h refl)
+kept m x (Finished o v f) e h = absurd (h refl)
 kept m x (Refused r) e h = refused-unchanged m x r e
 
 -- a refused step, whatever the bytes, the session and what is lent: the switch, the store, the open operations and the packets are as they were, and so are the
@@ -37,10 +37,10 @@ module _ (u : Session) (switch store opens : List ℕ) (packets : List Packet) (
       let same = kept was (askedBy bytes) (answerTo was (askedBy bytes)) refl h in
       (same, ap (λ (m : Machine). m .waiting .count) same, λ e. ap (λ (m : Machine). countedMarks (m .switch)) same ∙ sym e)
 
--- a refused start: everything but the refusal, the operation and the value is as it was
+-- a refused start: everything but the refusal, the operation, its value and its freshness is as it was
 abbrev StartKept : ℕ → Session → Type 0
 StartKept n u =
-    (sessionStarted n u ≡ record { refusal = 2; operation = 0; value = 0; marks = u .marks; waiting = u .waiting })
+    (sessionStarted n u ≡ record { refusal = 2; operation = 0; value = 0; freshness = 0; marks = u .marks; waiting = u .waiting })
     × ((l : List ℕ) → startSwitch n l ≡ l) × ((l : List ℕ) → startStore n l ≡ l) × ((l : List ℕ) → startOpens n l ≡ l)
 
 pub session-start-unchanged : (n : ℕ) (u : Session) → sessionStarted n u .refusal ≢ 0 → StartKept n u

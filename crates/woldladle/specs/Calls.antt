@@ -5,76 +5,26 @@ use Prim.Native.Nat.{ℕ, _+_, _%_}
 use lib.Dec.{eqb, leb, ltb}
 use lib.ListN.{length}
 use Rattle.limits.specs as limits
-use Rattle.replicas.specs.Store.{valueAt, stampAt}
+use Rattle.store.specs.{valueAt, stampAt}
 use Rattle.waiting.specs.Waiting.{heldIn}
 use Rattle.protocol.specs.declared.Answer.{Answer}
-use Rattle.protocol.specs.declared.Answer.the-variants.{Done, Finished, Refused}
+use Rattle.protocol.specs.declared.Answer.the-variants.{Done, Finished}
 use Rattle.protocol.specs.declared.Refusal.the-variants.{Format}
 use Rattle.protocol.specs.declared.Step.{Step}
 use Rattle.protocol.specs.declared.Step.the-variants.{Start, BeginRead, BeginWrite, Deliver, Lose, Repeat, Advance, Replace, Tell, Remove, GiveUp}
-use Rattle.protocol.specs.declared.Stepped.{Stepped}
 use Rattle.protocol.specs.Answers.{refusalNumber}
-use Rattle.protocol.specs.Steps.{startRefused, startAnswer}
-use Rattle.records.specs.declared.Found.{Found}
-use Rattle.records.specs.Records.{kindOfTag, noStep, contentLength, recordAt, writtenAt, bufferAfter, writtenRefusal}
+use Rattle.records.specs.Records.{kindOfTag, noStep, contentLength, writtenAt, bufferAfter, writtenRefusal}
 use Rattle.lines.specs.Lines.{lineOf, noLine}
-use Rattle.woldladle.specs.declared.Session.{Session}
-
--- ---- a session
-
--- an answer in numbers: the refusal, or 0; the operation just finished and its value, or 0
-abbrev pub refusalIn : Answer → ℕ
-refusalIn Done = 0
-refusalIn (Finished o v) = 0
-refusalIn (Refused r) = refusalNumber r
-
-abbrev pub operationIn : Answer → ℕ
-operationIn Done = 0
-operationIn (Finished o v) = o
-operationIn (Refused r) = 0
-
-abbrev pub valueIn : Answer → ℕ
-valueIn Done = 0
-valueIn (Finished o v) = v
-valueIn (Refused r) = 0
-
--- a session after a start with n replicas: a refused one leaves the marks and what waits as they were
-unfoldable pub sessionStarted : ℕ → Session → Session
-sessionStarted n before = record {
-  refusal = refusalIn (startAnswer n);
-  operation = 0;
-  value = 0;
-  marks = cond (startRefused n) (before .marks) 0;
-  waiting = cond (startRefused n) (before .waiting) 0;
-}
-
--- the step of a record that fills the lent bytes; where there is none, a start, which the machine refuses by 1
-abbrev pub wholeStep : Found → ℕ → Step
-wholeStep (Found.Record x n) size = cond (eqb n size) x (Start 0)
-wholeStep Found.Malformed size = Start 0
-
-unfoldable pub askedBy : List ℕ → Step
-askedBy bytes = wholeStep (recordAt bytes 0) (length bytes)
-
--- a session after a step
-unfoldable pub sessionAfter : Stepped → Session
-sessionAfter t = record {
-  refusal = refusalIn (t .answer);
-  operation = operationIn (t .answer);
-  value = valueIn (t .answer);
-  marks = t .marks;
-  waiting = t .count;
-}
 
 -- ---- lines
 
 -- an answer that is no refusal, from its numbers
-unfoldable pub answerFrom : ℕ → ℕ → Answer
-answerFrom o v = cond (eqb o 0) Done (Finished o v)
+unfoldable pub answerFrom : ℕ → ℕ → ℕ → Answer
+answerFrom o v f = cond (eqb o 0) Done (Finished o v f)
 
 -- the line of a session's last step, as record k
-unfoldable pub lineFor : ℕ → ℕ → ℕ → ℕ → ℕ → ℕ → List ℕ
-lineFor k refusal o v waiting marks = cond (eqb refusal 0) (lineOf k (answerFrom o v) (heldIn waiting) marks) (noLine k refusal)
+unfoldable pub lineFor : ℕ → ℕ → ℕ → ℕ → ℕ → ℕ → ℕ → List ℕ
+lineFor k refusal o v f waiting marks = cond (eqb refusal 0) (lineOf k (answerFrom o v f) (heldIn waiting) marks) (noLine k refusal)
 
 -- how many bytes of a line go into a buffer: all, or none where it is too short
 unfoldable pub putBytes : List ℕ → List ℕ → ℕ

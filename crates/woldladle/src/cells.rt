@@ -3,8 +3,7 @@ ghost use mathlib.Core.Path.{_≡_};
 ghost use Rattle.woldladle.specs.Calls.{isCell, valueOf, stampIn};
 use limits::OBJECTS;
 use limits::REPLICAS;
-use replicas::CELLS;
-use replicas::store;
+use store::CELLS;
 
 fn is_cell(replica: u8, object: u32) -> bool
     ensures { λ r. ⌜ r ≡ isCell replica object ⌝ }

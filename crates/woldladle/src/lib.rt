@@ -2,32 +2,21 @@
 ghost use mathlib.Core.Path.{_≡_};
 ghost use Rattle.waiting.specs.Waiting.{waitingList};
 ghost use Rattle.protocol.specs.Steps.{machine, after, steppedBy, startSwitch, startStore, startOpens};
-ghost use Rattle.woldladle.specs.Calls.{sessionStarted, askedBy, sessionAfter};
+ghost use Rattle.sessions.specs.{sessionStarted, askedBy, sessionAfter};
 
 pub mod cells;
 pub mod lines_out;
 pub mod records_out;
-pub mod sessions;
 
+use sessions::Session;
 use waiting::Packet;
-
-// The answer of the last start or step: its refusal or 0; the operation that it finished, or 0, and that operation's value; how many marks count then. `waiting` is
-// the count of waiting packets that goes into the next step.
-#[repr(C)]
-pub struct Session {
-    pub refusal: u8,
-    pub operation: u32,
-    pub value: u32,
-    pub marks: u32,
-    pub waiting: usize,
-}
 
 // A start with n replicas.
 #[no_mangle]
 pub extern "C" fn woldladle_start(
     session: &mut Session,
     switch: &mut [u32; switch::CELLS],
-    store: &mut [u32; replicas::CELLS],
+    store: &mut [u32; store::CELLS],
     opens: &mut [u32; operations::CELLS],
     n: u8,
 )
@@ -45,7 +34,7 @@ pub extern "C" fn woldladle_start(
 pub extern "C" fn woldladle_step(
     session: &mut Session,
     switch: &mut [u32; switch::CELLS],
-    store: &mut [u32; replicas::CELLS],
+    store: &mut [u32; store::CELLS],
     opens: &mut [u32; operations::CELLS],
     packets: &mut [Packet],
     bytes: &[u8],

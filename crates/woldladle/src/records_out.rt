@@ -3,6 +3,7 @@ ghost use mathlib.Core.Path.{_≡_};
 ghost use Rattle.woldladle.specs.Calls.{largestFirst, largestSecond, isRecord, stepFrom, recordRefusal, recordBuffer, recordSize};
 use protocol::Refusal;
 use protocol::Step;
+use protocol::answers;
 use records::NO_STEP;
 use records::Written;
 
@@ -66,12 +67,12 @@ pub extern "C" fn woldladle_write_record(tag: u8, first: u32, second: u32, out: 
     ensures { λ r. ⌜ (r ≡ recordRefusal (now (out .entry)) tag first second) × (now (out .exit) ≡ recordBuffer (now (out .entry)) tag first second) ⌝ }
 {
     if !is_record(tag, first, second) {
-        return lines::refusal_number(Refusal::Format);
+        return answers::refusal_number(Refusal::Format);
     }
     let step = step_from(records::kind_of_tag(tag), first, second);
     match records::write_at(&mut *out, 0, step) {
         Written::Bytes(n) => 0,
-        Written::TooShort => lines::refusal_number(Refusal::BufferTooShort),
+        Written::TooShort => answers::refusal_number(Refusal::BufferTooShort),
     }
 }
 

@@ -110,9 +110,15 @@ fn work(
 
 /// Says which answers never occurred, if the comparison was a large one.
 fn warn_of_gaps(task: &Task, tally: &Tally) {
-    for number in reachable() {
-        if tally.refusals[number] == 0 && task.files >= 1000 {
-            println!("refusal {number} never occurred");
+    if task.files < 1000 {
+        return;
+    }
+    for number in reachable().filter(|&number| tally.refusals[number] == 0) {
+        println!("refusal {number} never occurred");
+    }
+    for (word, times) in [("old", tally.old), ("new", tally.new)] {
+        if times == 0 {
+            println!("{word} never occurred");
         }
     }
 }

@@ -8,9 +8,9 @@ listing: start 2; write 5 9; 2 * deliver 0; advance 2; 2 * deliver 0; read 5; 3 
 
 empty-input: => 1 no 1
 
-p3-start-of-one: start 1 => 1 ok 0 0 - -
+p3-start-of-one: start 1 => 1 ok 0 0 - - -
 
-p3-start-of-eight: start 8; tell 8 => 2 ok 0 0 - -
+p3-start-of-eight: start 8; tell 8 => 2 ok 0 0 - - -
 
 p3-start-of-zero: start 0 => 1 no 2
 
@@ -63,7 +63,7 @@ cut-in-the-content: start 2; bytes 2 0 6 0 5 0 0 0 => 2 no 1
 fault-ends-the-run: start 2; bytes 99 0 0; read 5 => 2 no 1
 
 length-65536-is-run: start 1; 7279 * write 1024 0; write 5 7; 2 * deliver 0
-    => 7283 ok 2 1 - -
+    => 7283 ok 2 1 - - -
 
 length-65536-ends-in-a-fault: start 2; read 5; fill 65536 => 3 no 1
 

@@ -128,7 +128,8 @@ impl Author {
             weights[READ] /= 8;
             weights[WRITE] /= 8;
         }
-        if mood.mischief && self.laden_middle().is_some() {
+        let middle = mood.mischief && self.laden_middle().is_some();
+        if middle || self.head_gone_round().is_some() {
             weights[REMOVE] *= 10;
         }
         self.without_idle(weights)
@@ -171,7 +172,7 @@ impl Author {
                 choice: self.random.draw() as u8,
             },
             LOSE => Step::Lose {
-                position: self.any_position(),
+                position: self.losable(),
             },
             REPEAT => Step::Repeat {
                 position: self.repeatable(),
@@ -209,6 +210,9 @@ impl Author {
     fn position(&mut self) -> u16 {
         if self.mood.mischief {
             return self.mischievous_position();
+        }
+        if self.mood.rounds {
+            return self.round_position();
         }
         if self.random.chance(self.mood.eager) {
             let unstamped = |p: &Packet| matches!(p, Packet::UnstampedWrite { .. });
@@ -254,8 +258,69 @@ impl Author {
         }
     }
 
+    /// Now and then a read whose object has a counting mark, else the oldest
+    /// packet or any; most often another one for a packet to be held back.
+    fn round_position(&mut self) -> u16 {
+        let model = &self.model;
+        let marked = self.first(|p| match *p {
+            Packet::Read { object, .. } => model.counting_mark(object).is_some(),
+            _ => false,
+        });
+        let position = match (marked, self.random.chance(self.mood.orderly)) {
+            (Some(marked), _) if self.random.chance(300) => return marked,
+            (_, true) => 0,
+            (_, false) => self.any_position(),
+        };
+        let packet = self.model.packets().get(usize::from(position));
+        let held_back = packet.map_or(0, |p| self.held_back(p));
+        if self.random.chance(held_back) {
+            let other = self.first(|p| self.held_back(p) == 0);
+            return other.unwrap_or(position);
+        }
+        position
+    }
+
+    /// How often of a thousand times a packet is held back: completions as the
+    /// mood wants, normal reads with a stamp, and replies while another copy
+    /// of their read waits.
+    fn held_back(&self, packet: &Packet) -> usize {
+        match *packet {
+            Packet::Completion { .. } => self.mood.late,
+            Packet::NormalRead { carried, .. } if carried.is_some() => 500,
+            Packet::Reply { operation, .. } => {
+                let copy = |p: &Packet| match *p {
+                    Packet::NormalRead { operation: o, .. } => o == operation,
+                    _ => false,
+                };
+                750 * usize::from(self.model.packets().iter().any(copy))
+            }
+            _ => 0,
+        }
+    }
+
+    /// A completion if the mood holds them back, else any packet.
+    fn losable(&mut self) -> u16 {
+        if self.random.chance(self.mood.late) {
+            let completion = self.first(|p| matches!(p, Packet::Completion { .. }));
+            return completion.unwrap_or_else(|| self.any_position());
+        }
+        self.any_position()
+    }
+
+    /// A normal read with a stamp as often as not, if the mood wants them
+    /// repeated and one waits.
+    fn carrying(&mut self) -> Option<u16> {
+        if !self.mood.rounds || self.random.chance(500) {
+            return None;
+        }
+        self.first(|p| matches!(p, Packet::NormalRead { carried, .. } if carried.is_some()))
+    }
+
     /// Most often a packet that may be repeated, if a few tries find one.
     fn repeatable(&mut self) -> u16 {
+        if let Some(position) = self.carrying() {
+            return position;
+        }
         let tries = self.random.one_of(&[0, 4, 4, 4]);
         for _ in 0..tries {
             let position = self.any_position();
@@ -288,10 +353,28 @@ impl Author {
         found.map(|(middle, _)| middle)
     }
 
-    /// Any live replica, or as often one between with writes beside it.
+    /// The head, if the mood wants it and a write in its link is one that a
+    /// waiting read goes round.
+    fn head_gone_round(&self) -> Option<u8> {
+        let mut live = self.model.live();
+        let (head, next) = (live.next()?, live.next()?);
+        let round = |packet: &Packet| match *packet {
+            Packet::NormalRead { carried, .. } => {
+                let mut link = self.model.incoming(next);
+                link.any(|write| carried == Some(write.stamp))
+            }
+            _ => false,
+        };
+        let found = self.mood.rounds && self.model.packets().iter().any(round);
+        found.then_some(head)
+    }
+
+    /// Any live replica, or as often one between with writes beside it or a
+    /// head whose writes reads go round.
     fn removal(&mut self) -> Step {
         let any = self.any_replica();
-        let laden = self.laden_middle().unwrap_or(any);
+        let head = self.head_gone_round();
+        let laden = head.or(self.laden_middle()).unwrap_or(any);
         Step::Remove {
             replica: self.random.one_of(&[any, laden]),
         }

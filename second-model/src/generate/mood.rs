@@ -36,6 +36,12 @@ pub struct Mood {
     pub wild: usize,
     /// Are direct reads held back until their replica is ahead?
     pub mischief: bool,
+    /// Are reads brought to the switch while their object has a mark, normal
+    /// reads with a stamp repeated and held back, and heads removed with the
+    /// write that such a read goes round?
+    pub rounds: bool,
+    /// Of a thousand completions, those held back or lost.
+    pub late: usize,
     /// The most operations begun.
     pub begins: u16,
 }
@@ -53,6 +59,8 @@ pub fn mood(kind: &str, random: &mut Random, length: usize) -> Mood {
         eager: 0,
         wild: 10,
         mischief: false,
+        rounds: false,
+        late: 0,
         begins: u16::MAX,
     };
     mood.weights[REMOVE] = removal_weight(length, 3);
@@ -66,6 +74,7 @@ pub fn mood(kind: &str, random: &mut Random, length: usize) -> Mood {
         "removals" => remove_often(&mut mood, random, length),
         "repeats-losses" => mood.weights[LOSE..=REPEAT].fill(2500),
         "direct-reads" => read_often(&mut mood, random),
+        "pending-writes" => go_round(&mut mood, random, length),
         "lone" => mood.replicas = 1,
         "small" => stay_small(&mut mood, random, length),
         "limits" => go_wild(&mut mood, random),
@@ -175,6 +184,23 @@ fn read_often(mood: &mut Mood, random: &mut Random) {
     mood.weights[READ] = 3500;
     mood.weights[WRITE] = 800;
     mood.weights[REPEAT] = 500;
+}
+
+/// Reads meet marks: writes linger in the links, completions come late or
+/// never, so that direct reads stay off for long.
+fn go_round(mood: &mut Mood, random: &mut Random, length: usize) {
+    mood.replicas = random.one_of(&[1, 2, 2, 3, 3, 4, 5, 8]);
+    mood.objects = some_objects(random, 4);
+    mood.waiting = random.within(4, 20);
+    mood.weights[READ] = 2500;
+    mood.weights[LOSE] = 600;
+    mood.weights[REPEAT] = random.one_of(&[200, 1500]);
+    mood.weights[REPLACE] = random.one_of(&[0, 4, 60]);
+    mood.weights[TELL] = 4000;
+    mood.weights[REMOVE] = removal_weight(length, random.one_of(&[0, 2, 6]));
+    mood.orderly = random.one_of(&[100, 500]);
+    mood.rounds = true;
+    mood.late = random.one_of(&[0, 500, 900, 990, 1000]);
 }
 
 /// Few operations on one or two objects. Writes linger in the links and direct

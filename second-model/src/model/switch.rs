@@ -1,4 +1,5 @@
-//! The switch and its marks (document 01, "The marks (dirty set)").
+//! The switch and its marks (document 01, "The marks (dirty set)"; document 02,
+//! Req 01).
 
 use super::Stamp;
 
@@ -60,12 +61,12 @@ impl Switch {
         Some(stamp)
     }
 
-    /// Does the object have a counting mark?
-    pub fn is_marked(&self, object: u16) -> bool {
+    /// "Looking up a mark now gives its stamp": that of the object's counting
+    /// mark, first stage first; none if it has no mark that counts.
+    pub fn counting_mark(&self, object: u16) -> Option<Stamp> {
         let slots = slots_of(object);
-        slots
-            .iter()
-            .any(|&s| self.holders[s] == Some(object) && self.counts(s))
+        let ours = |&&s: &&usize| self.holders[s] == Some(object) && self.counts(s);
+        slots.iter().find(ours).map(|&s| self.stamps[s])
     }
 
     /// "Completion, to the switch": clears the object's marks not above the
@@ -122,7 +123,7 @@ mod tests {
     fn p7_a_lower_completion_leaves_the_mark() {
         let mut switch = marked(&[5, 5, 5, 5]);
         switch.complete(5, Stamp::new(1, 3));
-        assert!(switch.is_marked(5));
+        assert_eq!(switch.counting_mark(5), Some(Stamp::new(1, 4)));
         assert_eq!(switch.counting(), 1);
         assert_eq!(switch.holders[5], Some(5));
     }
@@ -131,7 +132,7 @@ mod tests {
     fn p8_another_completion_overtakes_the_mark() {
         let mut switch = marked(&[1, 2, 3, 5, 6, 7, 9]);
         switch.complete(9, Stamp::new(1, 7));
-        assert!(!switch.is_marked(5));
+        assert_eq!(switch.counting_mark(5), None);
         assert_eq!(switch.counting(), 0);
         assert_eq!(switch.holders[5], Some(5), "overtaken, yet still there");
         assert_eq!(switch.holders[9], None, "cleared");
@@ -153,7 +154,7 @@ mod tests {
         switch.complete(5, Stamp::new(1, 2));
         assert_eq!(switch.mark(32), Some(Stamp::new(1, 3)));
         assert_eq!(switch.holders[0], Some(32));
-        assert!(!switch.is_marked(16));
+        assert_eq!(switch.counting_mark(16), None);
     }
 
     #[test]
@@ -171,7 +172,22 @@ mod tests {
         switch.mark(5);
         switch.complete(5, Stamp::new(1, 9));
         assert_eq!(switch.committed, Stamp::new(1, 9));
-        assert!(switch.direct_reads && switch.is_marked(5));
+        assert!(switch.direct_reads);
+        assert_eq!(switch.counting_mark(5), Some(Stamp::new(2, 1)));
+    }
+
+    #[test]
+    fn looking_up_gives_the_stamp_in_each_stage() {
+        let mut switch = marked(&[16, 512, 256]);
+        assert_eq!(switch.holders[0], Some(16));
+        assert_eq!(switch.holders[16], Some(512));
+        assert_eq!(switch.holders[36], Some(256));
+        assert_eq!(switch.counting_mark(16), Some(Stamp::new(1, 1)));
+        assert_eq!(switch.counting_mark(512), Some(Stamp::new(1, 2)));
+        assert_eq!(switch.counting_mark(256), Some(Stamp::new(1, 3)));
+        assert_eq!(switch.counting_mark(0), None, "the slots of others");
+        switch.mark(16);
+        assert_eq!(switch.counting_mark(16), Some(Stamp::new(1, 4)));
     }
 
     #[test]

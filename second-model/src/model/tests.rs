@@ -1,4 +1,5 @@
-//! The rules of document 01 at the level of single steps, worked out by hand.
+//! The rules of document 01, and of Req 01 of document 02, at the level of
+//! single steps, worked out by hand.
 
 use super::*;
 
@@ -13,7 +14,25 @@ fn no(refusal: Refusal) -> Answer {
 }
 
 fn done(operation: u16, value: u32) -> Answer {
-    Ok(Some(Finished { operation, value }))
+    aged(operation, value, Age::None)
+}
+
+fn aged(operation: u16, value: u32, age: Age) -> Answer {
+    Ok(Some(Finished {
+        operation,
+        value,
+        age,
+    }))
+}
+
+/// A reply that carries nothing.
+fn plain_reply(operation: u16, value: u32) -> Packet {
+    Packet::Reply {
+        operation,
+        value,
+        carried: None,
+        age: Age::None,
+    }
 }
 
 /// Short names for the steps.
@@ -116,14 +135,12 @@ fn p6_direct_read_against_the_object_s_stamp() {
         assert_eq!(model.stamp(1, 5), Stamp::new(1, 4));
         assert_eq!(model.give(0), OK);
         let expected = match kind {
-            "reply" => Packet::Reply {
-                operation: 5,
-                value: 4,
-            },
+            "reply" => plain_reply(5, 4),
             _ => Packet::NormalRead {
                 to: 2,
                 operation: 4,
                 object: 5,
+                carried: None,
             },
         };
         assert_eq!(model.packets(), [expected]);
@@ -218,12 +235,8 @@ fn a_write_through_three_replicas() {
     assert_eq!((model.value(2, 5), model.waiting()), (9, 0));
     assert_eq!(model.move_on(3), OK);
     let stamp = Stamp::new(1, 1);
-    let reply = Packet::Reply {
-        operation: 1,
-        value: 9,
-    };
     let completion = Packet::Completion { object: 5, stamp };
-    assert_eq!(model.packets(), [reply, completion]);
+    assert_eq!(model.packets(), [plain_reply(1, 9), completion]);
     assert_eq!(model.move_on(1), no(Refusal::NothingIncoming));
     assert_eq!(model.move_on(4), no(Refusal::NotLive));
 }
@@ -284,4 +297,94 @@ fn a_reply_finishes_once() {
     assert_eq!(model.give(0), OK);
     let operation = 1;
     assert_eq!(model.step(Step::GiveUp { operation }), no(Refusal::NotOpen));
+}
+
+/// What the normal read or reply at a position carries.
+fn carried(model: &Model, position: usize) -> Option<Stamp> {
+    match model.packets()[position] {
+        Packet::NormalRead { carried, .. } | Packet::Reply { carried, .. } => carried,
+        other => panic!("carries nothing: {other:?}"),
+    }
+}
+
+#[test]
+fn the_age_is_by_the_whole_stamp() {
+    let (low, high) = (Stamp::new(1, 9), Stamp::new(2, 1));
+    assert_eq!(Age::of(low, Some(high)), Age::Old);
+    assert_eq!(Age::of(high, Some(low)), Age::New);
+    assert_eq!(Age::of(high, Some(high)), Age::New);
+    assert_eq!(Age::of(Stamp::ZERO, Some(low)), Age::Old);
+    assert_eq!(Age::of(high, None), Age::None);
+}
+
+#[test]
+fn a_read_and_its_reply_carry_the_mark_s_stamp() {
+    for on in [false, true] {
+        let mut model = model(2);
+        if on {
+            model.write_through(7, 1);
+        }
+        assert_eq!(model.direct_reads(), on);
+        model.write_at_head(5, 9);
+        let mark = Some(Stamp::new(1, 1 + u16::from(on)));
+        assert_eq!(model.counting_mark(5), mark);
+        let operation = model.begun() + 1;
+        assert_eq!(model.read(5), OK);
+        assert_eq!(model.give(0), OK);
+        assert_eq!(carried(&model, 0), mark);
+        assert_eq!(model.again(0), OK);
+        assert_eq!(model.packets()[0], model.packets()[1]);
+        assert_eq!(model.give(0), OK);
+        assert_eq!(carried(&model, 1), mark);
+        assert_eq!(model.move_on(2), OK);
+        assert_eq!(model.give(1), aged(operation, 0, Age::Old));
+        assert_eq!(model.give(0), OK);
+        assert_eq!(carried(&model, 2), mark);
+        assert_eq!(model.give(2), OK, "answered new, but no longer open");
+    }
+}
+
+#[test]
+fn the_age_stays_as_it_was_when_answered() {
+    let mut model = model(2);
+    model.write_at_head(5, 9);
+    assert_eq!(model.read(5), OK);
+    (0..2).for_each(|_| assert_eq!(model.give(0), OK));
+    assert_eq!(model.move_on(2), OK);
+    assert_eq!(model.give(1), done(1, 9));
+    assert_eq!(model.give(1), OK);
+    assert_eq!(model.counting_mark(5), None);
+    assert_eq!(model.give(0), aged(2, 0, Age::Old));
+}
+
+#[test]
+fn a_direct_read_sent_on_carries_nothing() {
+    let mut model = model(2);
+    model.write_through(5, 1);
+    assert_eq!(model.read(5), OK);
+    assert_eq!(model.give(0), OK);
+    model.write_at_head(5, 2);
+    assert_eq!(model.counting_mark(5), Some(Stamp::new(1, 2)));
+    assert_eq!(model.give(0), OK);
+    assert_eq!(carried(&model, 0), None);
+    assert_eq!(model.give(0), OK);
+    assert_eq!(model.packets(), [plain_reply(2, 1)]);
+    assert_eq!(model.give(0), done(2, 1));
+}
+
+/// In a run all marks count while direct reads are off: last-committed is
+/// (0,0) until the first completion, which turns them on. So this state is
+/// made by hand.
+#[test]
+fn an_overtaken_mark_gives_no_stamp_with_direct_reads_off() {
+    let mut model = model(2);
+    assert_eq!(model.write(5, 9), OK);
+    assert_eq!(model.give(0), OK);
+    model.switch.committed = Stamp::new(1, 1);
+    assert_eq!((model.direct_reads(), model.counting_marks()), (false, 0));
+    assert_eq!(model.read(5), OK);
+    assert_eq!(model.give(1), OK);
+    assert_eq!(carried(&model, 1), None);
+    assert_eq!(model.give(1), OK);
+    assert_eq!(model.give(1), done(2, 0));
 }

@@ -2,7 +2,7 @@ use Rattle.lines.specs.Lines.{noLine, lineOf}
 use lib.ListN.{length}
 use Prim.Native.Nat.{ℕ}
 use mathlib.Core.Path.{ap, _∙_}
-use Rattle.lines.proofs.Laws.{done-length, finished-length, finish-length}
+use Rattle.lines.proofs.Laws.{done-length, finished-length}
 use native.Mathlib.Omega.{arith}
 use borrow.Author.Needs.{needs}
 use Rattle.lines.proofs.line_length.Statement.{statement}
@@ -12,7 +12,7 @@ returns : tie.Need-returns
 returns c = let a = c .before .before .before .args in rw (c .before .enum-told .given .1) (omega (arith, done-length (a .number) (a .waiting) (a .marks), c .ok-length .ensures .0))
 
 returns-2 : tie.Need-returns-2
-returns-2 c = let a = c .before .before .before .before .before .before .args in let told = c .before .before .before .before .answer .given in rw (told .1) (omega (arith, finished-length (a .number) (told .0 .0) (told .0 .1 .0) (a .waiting) (a .marks), finish-length (told .0 .0) (told .0 .1 .0), c .before .before .ok-length2 .ensures .0, c .before .digits-of .ensures .0, c .digits-of2 .ensures .0))
+returns-2 c = let a = c .before .before .before .before .before .args in let told = c .before .before .before .answer .given in rw (told .1) (omega (arith, finished-length (a .number) (told .0 .0) (told .0 .1 .0) (told .0 .1 .1 .0) (a .waiting) (a .marks), c .before .ok-length2 .ensures .0, c .finish-length .ensures .0))
 
 returns-3 : tie.Need-returns-3
 unfolding lineOf
@@ -28,9 +28,6 @@ line-length-spec =
     (λ c. search needs)
     (λ c κs. search needs)
     (λ c κs. search needs)
-    (λ c. search needs)
-    (λ c κs. search needs)
-    (λ c. search needs)
     (λ c. search needs)
     (λ c. search needs)
     (λ c κs. search needs)

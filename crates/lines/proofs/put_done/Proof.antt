@@ -1,6 +1,6 @@
 use Rattle.lines.specs.Lines.{lineOf}
 use Rattle.lines.proofs.Text.{puts-then}
-use Rattle.lines.proofs.Laws.{done-length}
+use Rattle.lines.proofs.Laws.{done-length, none-length}
 use native.Mathlib.Omega.{arith}
 use borrow.Author.Needs.{needs}
 use Rattle.lines.proofs.put_done.Statement.{statement}
@@ -12,9 +12,12 @@ put-ok-requires c κs = let a = c .before .before .args in omega (arith, c .befo
 put-four-requires : tie.Need-put-four-requires
 put-four-requires c κs = let a = c .before .before .before .before .before .before .args in omega (arith, c .before .before .before .before .before .before .pre, done-length (a .number) (a .waiting) (a .marks), c .before .before .before .put-ok .ensures .after, c .before .before .before .put-ok .ensures .long)
 
+put-freshness-requires : tie.Need-put-freshness-requires
+put-freshness-requires c κs = let a = c .before .before .before .before .before .before .before .before .before .before .args in omega (arith, c .before .before .before .before .before .before .before .before .before .before .pre, done-length (a .number) (a .waiting) (a .marks), none-length, c .before .before .before .before .before .before .before .put-ok .ensures .after, c .before .before .before .before .before .before .before .put-ok .ensures .long, c .before .before .before .put-four .ensures .after, c .before .before .before .put-four .ensures .long)
+
 returns : tie.Need-returns
 unfolding lineOf
-returns c = puts-then (c .before .before .before .before .before .before .put-ok .ensures) (c .before .before .put-four .ensures)
+returns c = puts-then (puts-then (c .before .before .before .before .before .before .before .before .before .before .put-ok .ensures) (c .before .before .before .before .before .before .put-four .ensures)) (c .before .before .put-freshness .ensures)
 
 pub put-done-spec : {M : Type 1} → statement M
-put-done-spec = tie.close (tie.spec put-ok-requires put-four-requires (λ c. search needs) returns)
+put-done-spec = tie.close (tie.spec put-ok-requires put-four-requires put-freshness-requires (λ c. search needs) returns)

@@ -7,10 +7,10 @@ use Rattle.lines.proofs.put_finished.Statement.{statement}
 use Rattle.lines.proofs.put_finished.Tie as tie
 
 put-ok-requires : tie.Need-put-ok-requires
-put-ok-requires c κs = let a = c .before .before .args in omega (arith, c .before .before .pre, finished-length (a .number) (a .operation) (a .value) (a .waiting) (a .marks))
+put-ok-requires c κs = let a = c .before .before .args in omega (arith, c .before .before .pre, finished-length (a .number) (a .operation) (a .value) (a .freshness) (a .waiting) (a .marks))
 
 put-finish-requires : tie.Need-put-finish-requires
-put-finish-requires c κs = let a = c .before .before .before .before .before .before .args in omega (arith, c .before .before .before .before .before .before .pre, finished-length (a .number) (a .operation) (a .value) (a .waiting) (a .marks), c .before .before .before .put-ok .ensures .after, c .before .before .before .put-ok .ensures .long)
+put-finish-requires c κs = let a = c .before .before .before .before .before .before .args in omega (arith, c .before .before .before .before .before .before .pre, finished-length (a .number) (a .operation) (a .value) (a .freshness) (a .waiting) (a .marks), c .before .before .before .put-ok .ensures .after, c .before .before .before .put-ok .ensures .long)
 
 returns : tie.Need-returns
 unfolding lineOf

@@ -1,6 +1,6 @@
 use mathlib.Core.Path.{ap, _∙_}
 use Rattle.operations.specs.{noneOpen}
-use Rattle.replicas.specs.Chain.{emptyCells}
+use Rattle.chain.specs.{emptyCells}
 use borrow.Author.Needs.{needs}
 use Rattle.runs.proofs.Output.{print-holds}
 use Rattle.runs.proofs.print.Statement.{statement}

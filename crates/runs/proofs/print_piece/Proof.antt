@@ -61,10 +61,10 @@ use Rattle.turns.proofs.Ran as TN
 use Rattle.turns.proofs.Ran.Laws as TN′
 use Rattle.runs.proofs.Piece as TP
 use Rattle.runs.proofs.Piece.Laws as TP′
-use Rattle.turns.proofs.Lent.{Loan, loan, token, fields-of, ran-run, ran-used, shared-slice, held-ref, ended-ref, held-slice, ended-slice, Lists, handed, run-vals, ran-vals, Turning, to-turns, goes-turns, Gave, Turned-all, gives-turns}
-use Rattle.turns.proofs.turns.Symbol as tu-def
-use Rattle.turns.proofs.turns.Symbol.{name as #turns·turns}
-use Rattle.turns.proofs.turns.Met as tu-thm
+use Rattle.replay.proofs.Lent.{Loan, loan, token, fields-of, ran-run, ran-used, shared-slice, held-ref, ended-ref, held-slice, ended-slice, Lists, handed, run-vals, ran-vals, Turning, to-turns, goes-turns, Gave, Turned-all, gives-turns}
+use Rattle.replay.proofs.records.Symbol as tu-def
+use Rattle.replay.proofs.records.Symbol.{name as #replay·records}
+use Rattle.replay.proofs.records.Met as tu-thm
 use Rattle.runs.proofs.with_packets as wp
 use Rattle.runs.proofs.with_packets.Symbol as wp-def
 use Rattle.runs.proofs.with_packets.Symbol.{name as #runs·with-packets}
@@ -185,7 +185,7 @@ module _ {M : Type 1} (𝓤 : URA M) (H : Heap 𝓤) (A : Atoms 𝓤) (W : Given
       owned ! Places (Is Places) (array-makes 𝓤 H A W T.the-row (LL.makes T.the-type T′.the-plain 𝓤 H A) 64) ps _ gp $ fjoin ! $
       owned ! TR.the-row (Is TR.the-row) (LL.makes TR.the-type TR′.the-plain 𝓤 H A) r _ gr $ fjoin ! $ nothing ! $ fjoin ! $ frame ! $ owned ! TP.the-row (Is TP.the-row) (LL.makes TP.the-type TP′.the-plain 𝓤 H A) (piece v (z .packets)) _ gv $ done !
 
-  module _ (C : Calls 𝓤 H) (Λ : Loops 𝓤 H) (fm : FmC 𝓤 H (W .laws) C) (turns : Triple 𝓤 (C #turns·turns) (Turning 𝓤 H A mem run)) (joins : Triple 𝓤 (C #runs·with-packets) (Joining 𝓤 H A mem run)) where
+  module _ (C : Calls 𝓤 H) (Λ : Loops 𝓤 H) (fm : FmC 𝓤 H (W .laws) C) (turns : Triple 𝓤 (C #replay·records) (Turning 𝓤 H A mem run)) (joins : Triple 𝓤 (C #runs·with-packets) (Joining 𝓤 H A mem run)) where
     abbrev passed : List Val
     passed = only (slice-vals (i .ref)) ∷ only (run-vals r) ∷ only (places-vals ps) ∷ only (ptr-vals (s .ref)) ∷ only (ptr-vals (c .ref)) ∷ only (ptr-vals (o .ref)) ∷ only (slice-vals (t .ref)) ∷ vint w64 u ∷ vint w64 e ∷ []
 
@@ -254,7 +254,7 @@ module _ {M : Type 1} (𝓤 : URA M) (H : Heap 𝓤) (A : Atoms 𝓤) (W : Given
         by ! (exits v z (subst (Is TP.the-row (piece v (z .packets))) told-y iy) (g .1) (g .2 .1))))))))))))))))))))))))))))))))
 
 module _ {M : Type 1} (𝓤 : URA M) (H : Heap 𝓤) (A : Atoms 𝓤) (W : Given 𝓤 H A) (mem : Memory → SProp 𝓤) (run : Routine → Fun 𝓤) where
-  print-piece-walks : (C : Calls 𝓤 H) (Λ : Loops 𝓤 H) → FmC 𝓤 H (W .laws) C → Triple 𝓤 (C #turns·turns) (Turning 𝓤 H A mem run) → Triple 𝓤 (C #runs·with-packets) (Joining 𝓤 H A mem run) → Walks 𝓤 H A f.ended stayed (WpFn 𝓤 H C Λ code.function) (f.clauses 𝓤 H A mem run)
+  print-piece-walks : (C : Calls 𝓤 H) (Λ : Loops 𝓤 H) → FmC 𝓤 H (W .laws) C → Triple 𝓤 (C #replay·records) (Turning 𝓤 H A mem run) → Triple 𝓤 (C #runs·with-packets) (Joining 𝓤 H A mem run) → Walks 𝓤 H A f.ended stayed (WpFn 𝓤 H C Λ code.function) (f.clauses 𝓤 H A mem run)
   print-piece-walks C Λ fm turns joins = walked 𝓤 H A f.ended stayed (f.clauses 𝓤 H A mem run) (WpFn 𝓤 H C Λ code.function)
       (λ κs. (slice-vals, (run-vals, (places-vals, (ptr-vals, (ptr-vals, (ptr-vals, (slice-vals, (uint-vals w64, (uint-vals w64, tt))))))))))
       (λ κs. (
@@ -276,7 +276,7 @@ module _ {M : Type 1} (𝓤 : URA M) (H : Heap 𝓤) (A : Atoms 𝓤) (W : Given
       (are .1 .0) (are .1 .1 .0) (are .1 .1 .1 .1 .1 .1 .1 .0 .1) (are .1 .1 .1 .1 .1 .1 .1 .1 .0 .1) C Λ fm turns joins (are .0 .0 .1) (are .1 .1 .1 .1 .1 .1 .0 .0 .1)))
 
 print-piece-meets : {M : Type 1} (𝓤 : URA M) (H : Heap 𝓤) (A : Atoms 𝓤) → Given 𝓤 H A → (mem : Memory → SProp 𝓤) (run : Routine → Fun 𝓤) (𝓣 : Tables 𝓤 H)
-    → Triple 𝓤 (𝓣 .C #turns·turns) (Turning 𝓤 H A mem run) → Triple 𝓤 (𝓣 .C #runs·with-packets) (Joining 𝓤 H A mem run) → Meets 𝓤 H A f.signature (WpFn 𝓤 H (𝓣 .C) (𝓣 .Λ) code.function) (f.spec 𝓤 H A mem run)
+    → Triple 𝓤 (𝓣 .C #replay·records) (Turning 𝓤 H A mem run) → Triple 𝓤 (𝓣 .C #runs·with-packets) (Joining 𝓤 H A mem run) → Meets 𝓤 H A f.signature (WpFn 𝓤 H (𝓣 .C) (𝓣 .Λ) code.function) (f.spec 𝓤 H A mem run)
 print-piece-meets 𝓤 H A W mem run 𝓣 turns joins =
     walk-meets 𝓤 H A f.ended stayed W (
       goes-dropped 𝓤 H A W 5 (shrSliceOf (0 ∷ []) tt (plain (λ _. u8))) yes (λ κs x f. refl),
@@ -305,5 +305,5 @@ print-piece-spec 𝓤 H 𝓜 𝓖 𝓡 =
     entered 𝓤 H (tripleOf 𝓤 H (𝓖 .A) f.signature (f.spec 𝓤 H (𝓖 .A) (𝓜 .mem) (𝓡 .run)))
     (tables 𝓤 H 𝓜 𝓡 code.env .C) (tables 𝓤 H 𝓜 𝓡 code.env .Λ) #runs·print-piece code.function (code.unfolded 𝓤 H 𝓜 𝓡)
     (print-piece-meets 𝓤 H (𝓖 .A) (givenOf 𝓤 H 𝓜 𝓖) (𝓜 .mem) (𝓡 .run) (tablesOf 𝓤 H 𝓜 (tables 𝓤 H 𝓜 𝓡 code.env))
-    (cited 𝓤 H (Turning 𝓤 H (𝓖 .A) (𝓜 .mem) (𝓡 .run)) 𝓜 𝓡 code.env #turns·turns tu-def.routine code.calls-turns·turns (tu-thm.met 𝓤 H 𝓜 𝓖 𝓡))
+    (cited 𝓤 H (Turning 𝓤 H (𝓖 .A) (𝓜 .mem) (𝓡 .run)) 𝓜 𝓡 code.env #replay·records tu-def.routine code.calls-replay·records (tu-thm.met 𝓤 H 𝓜 𝓖 𝓡))
     (cited 𝓤 H (Joining 𝓤 H (𝓖 .A) (𝓜 .mem) (𝓡 .run)) 𝓜 𝓡 code.env #runs·with-packets wp-def.routine code.calls-runs·with-packets (wp-thm.met 𝓤 H 𝓜 𝓖 𝓡)))

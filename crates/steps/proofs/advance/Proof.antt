@@ -1,4 +1,4 @@
-use Rattle.replicas.proofs.Members.{live-place}
+use Rattle.chain.proofs.Members.{live-place}
 use Rattle.replicas.proofs.Moves.{pending-at}
 use mathlib.Core.Path.{refl}
 use borrow.Author.Tests.{eq-eqb, le-ltb, lt-ltb, ne-eqb}

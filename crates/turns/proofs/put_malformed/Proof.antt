@@ -6,7 +6,7 @@ use Rattle.turns.proofs.put_malformed.Tie as tie
 use Rattle.turns.proofs.put_malformed.Reads as reads
 use Rattle.turns.proofs.put_malformed.Lts as lts
 use Rattle.lines.proofs.put_refusal.Reads as put-refusal-reads
-use Rattle.lines.proofs.refusal_number.Reads as refusal-number-reads
+use Rattle.protocol.proofs.answers.refusal_number.Reads as refusal-number-reads
 use Rattle.turns.proofs.place_after.Reads as place-after-reads
 
 -- src/lib.rt:169:57

@@ -45,7 +45,7 @@ use Rattle.waiting.specs.declared.Packet.{Packet}
 use Rattle.waiting.specs.Waiting.{blank, lookAt}
 use Rattle.waiting.proofs.Packet as T
 use Rattle.waiting.proofs.Packet.Laws as T′
-use Rattle.waiting.proofs.Parts.{tail-of, vals, val, word, slice}
+use Rattle.waiting.proofs.Parts.{tail-of, vals, val, bytes, word, slice}
 use Rattle.waiting.proofs.Packet.blank as bl
 use Rattle.waiting.proofs.Packet.blank.Symbol as bl-def
 use Rattle.waiting.proofs.Packet.blank.Symbol.{name as #waiting·Packet·blank}
@@ -120,10 +120,10 @@ module _ {M : Type 1} (𝓤 : URA M) (H : Heap 𝓤) (A : Atoms 𝓤) (W : Given
         first ! $ branches ! (load ! (from ! (stop !)) (look ! 12 refl))
         (λ inside.
         let l : j < length ys = ltb→lt j (length ys) inside in
-        let scaled : Fits w64 (j * 20) = scaled-fits j (length ys) 20 l (room .1) in
+        let scaled : Fits w64 (j * bytes) = scaled-fits j (length ys) bytes l (room .1) in
         assigns ! (bin ! (load ! (from ! (stop !)) (look ! 16 refl)) (lit ! tt) scaled) (from ! (stop !)) (init ! 10 refl (tt, scaled)) $
         assigns ! (bin ! (load ! (from ! (fld ! refl (stop !))) (look-in ! 18 (sub ! 0 refl (whole !)))) (load ! (from ! (stop !)) (look ! 10 refl)) tt) (from ! (stop !)) (init ! 8 refl (tt, tt)) $
-        rewrite ! 8 (λ (m : ℕ). ‵ (fat fullShare tyPtr l₆ 0 (vptr b m))) (sym (place-is 20 o j)) refl $
+        rewrite ! 8 (λ (m : ℕ). ‵ (fat fullShare tyPtr l₆ 0 (vptr b m))) (sym (place-is bytes o j)) refl $
         opens-slice ! tt T.the-row ys b o $ elem-out ! T.the-row (Is T.the-row) (shows 𝓤 H A T.the-row) vals (LL.tells T.the-type T′.the-laws) fullShare ys j blank b o l (λ was.
         let typed = LL.lawful T.the-type T′.the-laws 𝓤 H A W .typed (getD ys j blank) _ was .0 in
         -- [the element; what it owns; the others; the open borrow; obs; auth; true; the slice's fact; the number's; _7; …; _6; …]

@@ -41,7 +41,7 @@ use borrow.Author.Needs.{scaled-fits}
 use Rattle.waiting.specs.declared.Packet.{Packet}
 use Rattle.waiting.proofs.Packet as T
 use Rattle.waiting.proofs.Packet.Laws as T′
-use Rattle.waiting.proofs.Parts.{tail-of, vals, val, word, slice}
+use Rattle.waiting.proofs.Parts.{tail-of, vals, val, bytes, word, slice}
 use Rattle.waiting.proofs.Plans.{set-past}
 use Rattle.waiting.proofs.put.Key.{name as #waiting·put}
 use Rattle.waiting.proofs.put as f
@@ -93,10 +93,10 @@ module _ {M : Type 1} (𝓤 : URA M) (H : Heap 𝓤) (A : Atoms 𝓤) (W : Given
         first ! $ branches ! (load ! (from ! (stop !)) (look ! 10 refl))
         (λ inside.
         let l : i < length ys = ltb→lt i (length ys) inside in
-        let scaled : Fits w64 (i * 20) = scaled-fits i (length ys) 20 l (gn .1) in
+        let scaled : Fits w64 (i * bytes) = scaled-fits i (length ys) bytes l (gn .1) in
         assigns ! (bin ! (load ! (from ! (stop !)) (look ! 16 refl)) (lit ! tt) scaled) (from ! (stop !)) (init ! 8 refl (tt, scaled)) $
         assigns ! (bin ! (load ! (from ! (fld ! refl (stop !))) (look-in ! 18 (sub ! 0 refl (whole !)))) (load ! (from ! (stop !)) (look ! 8 refl)) tt) (from ! (stop !)) (init ! 6 refl (tt, tt)) $
-        rewrite ! 6 (λ (m : ℕ). ‵ (fat fullShare tyPtr l₇ 0 (vptr b m))) (sym (place-is 20 o i)) refl $
+        rewrite ! 6 (λ (m : ℕ). ‵ (fat fullShare tyPtr l₇ 0 (vptr b m))) (sym (place-is bytes o i)) refl $
         opens-slice ! tt T.the-row ys b o $ elem-out ! T.the-row (Is T.the-row) (shows 𝓤 H A T.the-row) vals (LL.tells T.the-type T′.the-laws) fullShare ys i p b o l (λ _.
         -- [s[i]; what it owns; the others; the open borrow; obs; auth; true; s's fact; i's and p's; _7; …; _6; …; _5; …; _4; …; _3; …]
         assigns-last ! (of-opd ! (load ! (from ! (stop !)) (look ! 17 refl))) (from ! (hop ! (look ! 9 refl) (stop !))) (store-raw ! 0 refl typed) $ exec ! C Λ (env l₀ l₁ l₂ l₃ l₄ l₅ l₆ l₇) rest (atRet (env l₀ l₁ l₂ l₃ l₄ l₅ l₆ l₇) Post) $

@@ -38,15 +38,15 @@ use denote.Triple.Walked.{says, Stays, stay-none, stay-ref, gave-ref, walkOf, go
 use denote.Exit.{yes}
 use Rattle.protocol.specs.Steps.{startSwitch, startStore, startOpens}
 use Rattle.machine.proofs.Lent.{Switch, Store, Opens}
-use Rattle.woldladle.specs.declared.Session.{Session}
-use Rattle.woldladle.specs.Calls.{sessionStarted}
+use Rattle.sessions.specs.declared.Session.{Session}
+use Rattle.sessions.specs.{sessionStarted}
 use Rattle.woldladle.proofs.Parts.{session-vals, told, kept, typed, refer, shown, borrowed}
-use Rattle.woldladle.proofs.Session as T
-use Rattle.woldladle.proofs.Session.Laws as T′
-use Rattle.woldladle.proofs.sessions.begin as be
-use Rattle.woldladle.proofs.sessions.begin.Symbol as be-def
-use Rattle.woldladle.proofs.sessions.begin.Symbol.{name as #woldladle·begin}
-use Rattle.woldladle.proofs.sessions.begin.Met as be-thm
+use Rattle.sessions.proofs.Session as T
+use Rattle.sessions.proofs.Session.Laws as T′
+use Rattle.sessions.proofs.begin as be
+use Rattle.sessions.proofs.begin.Symbol as be-def
+use Rattle.sessions.proofs.begin.Symbol.{name as #woldladle·begin}
+use Rattle.sessions.proofs.begin.Met as be-thm
 use Rattle.woldladle.proofs.woldladle_start.Key.{name as #woldladle·start}
 use Rattle.woldladle.proofs.woldladle_start as f
 use Rattle.woldladle.proofs.woldladle_start.Statement as stated
@@ -203,4 +203,4 @@ woldladle-start-spec 𝓤 H 𝓜 𝓖 𝓡 =
     entered 𝓤 H (tripleOf 𝓤 H (𝓖 .A) f.signature (f.spec 𝓤 H (𝓖 .A) (𝓜 .mem) (𝓡 .run)))
     (tables 𝓤 H 𝓜 𝓡 code.env .C) (tables 𝓤 H 𝓜 𝓡 code.env .Λ) #woldladle·start code.function (code.unfolded 𝓤 H 𝓜 𝓡)
     (start-meets 𝓤 H (𝓖 .A) (givenOf 𝓤 H 𝓜 𝓖) (𝓜 .mem) (𝓡 .run) (tablesOf 𝓤 H 𝓜 (tables 𝓤 H 𝓜 𝓡 code.env))
-    (cited 𝓤 H (Beginning 𝓤 H (𝓖 .A) (𝓜 .mem) (𝓡 .run)) 𝓜 𝓡 code.env #woldladle·begin be-def.routine code.calls-woldladle·sessions·begin (be-thm.met 𝓤 H 𝓜 𝓖 𝓡)))
+    (cited 𝓤 H (Beginning 𝓤 H (𝓖 .A) (𝓜 .mem) (𝓡 .run)) 𝓜 𝓡 code.env #woldladle·begin be-def.routine code.calls-sessions·begin (be-thm.met 𝓤 H 𝓜 𝓖 𝓡)))

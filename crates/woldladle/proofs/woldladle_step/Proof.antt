@@ -55,19 +55,19 @@ use Rattle.machine.proofs.Lent.{Switch, Store, Opens, step-vals, stepped-vals, 
 use Rattle.machine.proofs.step.Symbol as st-def
 use Rattle.machine.proofs.step.Symbol.{name as #machine·step}
 use Rattle.machine.proofs.step.Met as st-thm
-use Rattle.woldladle.specs.declared.Session.{Session}
-use Rattle.woldladle.specs.Calls.{askedBy, sessionAfter}
+use Rattle.sessions.specs.declared.Session.{Session}
+use Rattle.sessions.specs.{askedBy, sessionAfter}
 use Rattle.woldladle.proofs.Parts.{session-vals, told, kept, typed, refer, shown, borrowed}
-use Rattle.woldladle.proofs.Session as T
-use Rattle.woldladle.proofs.Session.Laws as T′
-use Rattle.woldladle.proofs.sessions.asked as ask
-use Rattle.woldladle.proofs.sessions.asked.Symbol as ask-def
-use Rattle.woldladle.proofs.sessions.asked.Symbol.{name as #woldladle·asked}
-use Rattle.woldladle.proofs.sessions.asked.Met as ask-thm
-use Rattle.woldladle.proofs.sessions.noted as no
-use Rattle.woldladle.proofs.sessions.noted.Symbol as no-def
-use Rattle.woldladle.proofs.sessions.noted.Symbol.{name as #woldladle·noted}
-use Rattle.woldladle.proofs.sessions.noted.Met as no-thm
+use Rattle.sessions.proofs.Session as T
+use Rattle.sessions.proofs.Session.Laws as T′
+use Rattle.sessions.proofs.asked as ask
+use Rattle.sessions.proofs.asked.Symbol as ask-def
+use Rattle.sessions.proofs.asked.Symbol.{name as #woldladle·asked}
+use Rattle.sessions.proofs.asked.Met as ask-thm
+use Rattle.sessions.proofs.noted as no
+use Rattle.sessions.proofs.noted.Symbol as no-def
+use Rattle.sessions.proofs.noted.Symbol.{name as #woldladle·noted}
+use Rattle.sessions.proofs.noted.Met as no-thm
 use Rattle.woldladle.proofs.woldladle_step.Key.{name as #woldladle·step}
 use Rattle.woldladle.proofs.woldladle_step as f
 use Rattle.woldladle.proofs.woldladle_step.Statement as stated
@@ -201,16 +201,16 @@ module _ {M : Type 1} (𝓤 : URA M) (H : Heap 𝓤) (A : Atoms 𝓤) (W : Given
         use1 W (later (given (Is TX.the-row y (w ∷ [])) (‵ (flft κ₄ q₄)))) (gives-asked w) $ await ! tt $ learn ! (λ iy.
         let told-y : w ∷ [] ≡ step-vals y = EL.tells TX.the-type TX′.the-laws y (w ∷ []) iy in
         land ! (from ! (stop !)) (init ! 28 refl (EL.lawful TX.the-type TX′.the-laws 𝓤 H A W tt .typed y _ iy .0)) $ rewrite ! 28 (λ (u : Val). ‵ (fat fullShare TX′.mir l₈ 0 u)) (ap only told-y) refl $
-        -- the switch's numbers, the store, the open operations and the packets go to `machine::step`, with the count, which lies at byte 16 of a session
+        -- the switch's numbers, the store, the open operations and the packets go to `machine::step`, with the count, which lies at byte 24 of a session
         assigns ! (addr ! (from ! (hop ! (look ! 40 refl) (stop !)))) (from ! (stop !)) (init ! 24 refl (tt, tt)) $
         assigns ! (addr ! (from ! (hop ! (look ! 38 refl) (stop !)))) (from ! (stop !)) (init ! 22 refl (tt, tt)) $
         assigns ! (addr ! (from ! (hop ! (look ! 36 refl) (stop !)))) (from ! (stop !)) (init ! 20 refl (tt, tt)) $
         assigns ! (addr ! (from ! (fld ! refl (hop ! (look-in ! 34 (sub ! 0 refl (whole !))) (stop !))))) (from ! (stop !)) (init ! 18 refl (tt, tt)) $
         assigns ! (agg ! (and-then ! (load ! (from ! (stop !)) (look ! 18 refl)) (and-then ! (load ! (from ! (fld ! refl (stop !))) (look-in ! 34 (sub ! 1 refl (whole !)))) (no-more !)))) (from ! (stop !)) (init ! 16 refl (tt, (tt, (record { fits = room .0 }, tt)))) $
         move ! (7 ∷ 11 ∷ []) $ join ! $ move ! (11 ∷ 0 ∷ []) $ join ! $ move ! (8 ∷ 0 ∷ []) $ join ! $ move ! (10 ∷ 0 ∷ []) $ join ! $ move ! (8 ∷ 0 ∷ []) $ join ! $ move ! (7 ∷ 8 ∷ 0 ∷ []) $
-        use3 W (raw (Stepping 𝓤 H A at-mem run .pre (to-step 𝓤 H A W at-mem run κ₀ κ₁ κ₂ κ₃ q₀ q₁ q₂ q₃ b₀ o₀ γ₀ ns b₁ o₁ γ₁ cs b₂ o₂ γ₂ os b₃ o₃ γ₃ ps n y))) (goes-step 𝓤 H A W at-mem run κ₀ κ₁ κ₂ κ₃ q₀ q₁ q₂ q₃ b₀ o₀ γ₀ ns b₁ o₁ γ₁ cs b₂ o₂ γ₂ os b₃ o₃ γ₃ ps n y (fields .1 .1 .1 .1 .0 .1) (subst (Is TX.the-row y) told-y iy)) $
+        use3 W (raw (Stepping 𝓤 H A at-mem run .pre (to-step 𝓤 H A W at-mem run κ₀ κ₁ κ₂ κ₃ q₀ q₁ q₂ q₃ b₀ o₀ γ₀ ns b₁ o₁ γ₁ cs b₂ o₂ γ₂ os b₃ o₃ γ₃ ps n y))) (goes-step 𝓤 H A W at-mem run κ₀ κ₁ κ₂ κ₃ q₀ q₁ q₂ q₃ b₀ o₀ γ₀ ns b₁ o₁ γ₁ cs b₂ o₂ γ₂ os b₃ o₃ γ₃ ps n y (fields .1 .1 .1 .1 .1 .0 .1) (subst (Is TX.the-row y) told-y iy)) $
         calls-at ! fm (Stepping 𝓤 H A at-mem run) steps (to-step 𝓤 H A W at-mem run κ₀ κ₁ κ₂ κ₃ q₀ q₁ q₂ q₃ b₀ o₀ γ₀ ns b₁ o₁ γ₁ cs b₂ o₂ γ₂ os b₃ o₃ γ₃ ps n y) (and-then ! (load ! (from ! (stop !)) (look ! 17 refl)) (and-then ! (load ! (from ! (stop !)) (look ! 15 refl)) (and-then ! (load ! (from ! (stop !)) (look ! 13 refl))
-        (and-then ! (load ! (from ! (stop !)) (look ! 9 refl)) (and-then ! (load ! (from ! (fld ! {τ = word} {d = 16} refl (stop !))) (look-in ! 23 (sub ! 4 {τ = word} {d = 16} refl (whole !)))) (and-then ! (load ! (from ! (stop !)) (look ! 21 refl)) (no-more !))))))) (λ w₁.
+        (and-then ! (load ! (from ! (stop !)) (look ! 9 refl)) (and-then ! (load ! (from ! (fld ! {τ = word} {d = 24} refl (stop !))) (look-in ! 23 (sub ! 5 {τ = word} {d = 24} refl (whole !)))) (and-then ! (load ! (from ! (stop !)) (look ! 21 refl)) (no-more !))))))) (λ w₁.
         use1 W (later (given (Did 𝓤 H A W at-mem run κ₀ κ₁ κ₂ κ₃ q₀ q₁ q₂ q₃ b₀ o₀ γ₀ ns b₁ o₁ γ₁ cs b₂ o₂ γ₂ os b₃ o₃ γ₃ ps n y w₁) left)) (gives-step 𝓤 H A W at-mem run κ₀ κ₁ κ₂ κ₃ q₀ q₁ q₂ q₃ b₀ o₀ γ₀ ns b₁ o₁ γ₁ cs b₂ o₂ γ₂ os b₃ o₃ γ₃ ps n y w₁) $ await ! tt $ learn ! (λ did.
         let told-r : w₁ ∷ [] ≡ stepped-vals r = LL.tells TS.the-type TS′.the-laws r (w₁ ∷ []) (did .0) in
         land ! (from ! (stop !)) (init ! 19 refl (LL.lawful TS.the-type TS′.the-laws 𝓤 H A W .typed r _ (did .0) .0)) $ rewrite ! 19 (λ (u : Val). ‵ (fat fullShare TS′.mir l₉ 0 u)) (ap only told-r) refl $
@@ -276,6 +276,6 @@ woldladle-step-spec 𝓤 H 𝓜 𝓖 𝓡 =
     entered 𝓤 H (tripleOf 𝓤 H (𝓖 .A) f.signature (f.spec 𝓤 H (𝓖 .A) (𝓜 .mem) (𝓡 .run)))
     (tables 𝓤 H 𝓜 𝓡 code.env .C) (tables 𝓤 H 𝓜 𝓡 code.env .Λ) #woldladle·step code.function (code.unfolded 𝓤 H 𝓜 𝓡)
     (step-meets 𝓤 H (𝓖 .A) (givenOf 𝓤 H 𝓜 𝓖) (𝓜 .mem) (𝓡 .run) (tablesOf 𝓤 H 𝓜 (tables 𝓤 H 𝓜 𝓡 code.env))
-    (cited 𝓤 H (Asking 𝓤 H (𝓖 .A) (𝓜 .mem) (𝓡 .run)) 𝓜 𝓡 code.env #woldladle·asked ask-def.routine code.calls-woldladle·sessions·asked (ask-thm.met 𝓤 H 𝓜 𝓖 𝓡))
+    (cited 𝓤 H (Asking 𝓤 H (𝓖 .A) (𝓜 .mem) (𝓡 .run)) 𝓜 𝓡 code.env #woldladle·asked ask-def.routine code.calls-sessions·asked (ask-thm.met 𝓤 H 𝓜 𝓖 𝓡))
     (cited 𝓤 H (Stepping 𝓤 H (𝓖 .A) (𝓜 .mem) (𝓡 .run)) 𝓜 𝓡 code.env #machine·step st-def.routine code.calls-machine·step (st-thm.met 𝓤 H 𝓜 𝓖 𝓡))
-    (cited 𝓤 H (Noting 𝓤 H (𝓖 .A) (𝓜 .mem) (𝓡 .run)) 𝓜 𝓡 code.env #woldladle·noted no-def.routine code.calls-woldladle·sessions·noted (no-thm.met 𝓤 H 𝓜 𝓖 𝓡)))
+    (cited 𝓤 H (Noting 𝓤 H (𝓖 .A) (𝓜 .mem) (𝓡 .run)) 𝓜 𝓡 code.env #woldladle·noted no-def.routine code.calls-sessions·noted (no-thm.met 𝓤 H 𝓜 𝓖 𝓡)))

@@ -9,7 +9,8 @@ use native.Mathlib.Omega.{arith}
 use borrow.Author.Needs.{needs}
 use Rattle.stamp.specs.Stamps.{isAbove}
 use Rattle.switch.specs.Numbers.{slotStamp}
-use Rattle.switch.specs.DirtySet.{countsAbove, countedTo, countedMarks}
+use Rattle.slots.specs.{countsAbove}
+use Rattle.switch.specs.DirtySet.{countedTo, countedMarks}
 use Rattle.switch.proofs.cells.count.Statement.{statement}
 use Rattle.switch.proofs.cells.count.Tie as tie
 

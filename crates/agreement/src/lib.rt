@@ -1,0 +1,109 @@
+// Whether the model prints for a stored example what another model prints for it.
+ghost use mathlib.Core.Path.{_≡_};
+ghost use Prim.Native.Nat.{_+_, _≤_, min};
+ghost use lib.ListN.{length};
+ghost use Rattle.io.specs.Counts.{Counts};
+
+// Whether the bytes of `part` stand in `s` from a place on.
+fn stands_at(s: &[u8], at: usize, part: &[u8]) -> bool {
+    if s.len() < at {
+        return false;
+    }
+    if s.len() - at < part.len() {
+        return false;
+    }
+    let mut i = 0;
+    while i < part.len() {
+        if s[at + i] != part[i] {
+            return false;
+        }
+        i += 1;
+    }
+    true
+}
+
+fn same(a: &[u8], b: &[u8]) -> bool {
+    if a.len() != b.len() {
+        return false;
+    }
+    stands_at(a, 0, b)
+}
+
+fn least(a: usize, b: usize) -> usize
+    ensures { λ r. ⌜ (r ≤ a) × (r ≤ b) ⌝ }
+{
+    if a < b {
+        return a;
+    }
+    b
+}
+
+// The bytes go into the buffer from a place on, as many as have room. The place after them.
+fn append(buf: &mut [u8], at: usize, from: &[u8]) -> usize
+    requires { ⌜ at ≤ length (now buf) ⌝ }
+    ensures { λ r. ⌜ Counts r (now (buf .exit)) ⌝ }
+{
+    let n = least(from.len(), buf.len() - at);
+    let mut i = 0;
+    while i < n {
+        buf[at + i] = from[i];
+        i += 1;
+    }
+    at + n
+}
+
+// Reads the file NAME.SUFFIX, as far as the buffer has room; nothing where there is none. How many bytes were read.
+pub fn read_named(name: &[u8], suffix: &[u8], buf: &mut [u8]) -> usize
+    ensures { λ r. ⌜ Counts r (now (buf .exit)) ⌝ }
+{
+    let mut path = io::buffer();
+    let dot = append(&mut path, 0, name);
+    let end = append(&mut path, dot, suffix);
+    let fd = os::open_read(&path[..end]);
+    let n = io::read_full(fd, &mut *buf);
+    libc::close(fd);
+    n
+}
+
+// The output of an input goes into the buffer, as far as it has room. How many of its bytes are that output.
+fn print(input: &[u8], out: &mut [u8]) -> usize
+    ensures { λ r. ⌜ Counts r (now (out .exit)) ⌝ }
+{
+    least(runs::print(input, &mut *out), out.len())
+}
+
+// Whether the model prints for the example what is expected.
+pub fn agrees(name: &[u8], input: &mut [u8], expected: &mut [u8], out: &mut [u8]) -> bool {
+    let n = read_named(name, b".records", &mut *input);
+    let m = read_named(name, b".lines", &mut *expected);
+    let used = print(&input[..n], &mut *out);
+    same(&out[..used], &expected[..m])
+}
+
+// The place after n bytes, or the end.
+pub fn after(s: &[u8], at: usize, n: usize) -> usize
+    ensures { λ r. ⌜ r ≡ min (at + n) (length (now (s .entry))) ⌝ }
+{
+    if s.len() <= at {
+        return s.len();
+    }
+    if s.len() - at <= n {
+        return s.len();
+    }
+    at + n
+}
+
+// Whether the model prints for the input, cut at each of its bytes in turn, what is expected, one output after the other.
+pub fn cuts_agree(input: &[u8], expected: &[u8], out: &mut [u8]) -> bool {
+    let mut at = 0;
+    let mut cut = 0;
+    while cut <= input.len() {
+        let used = print(&input[..cut], &mut *out);
+        if !stands_at(expected, at, &out[..used]) {
+            return false;
+        }
+        at = after(expected, at, used);
+        cut += 1;
+    }
+    at == expected.len()
+}

@@ -1,0 +1,3 @@
+-- The laws of the chain for the crates above.
+pub mod AllOf
+pub mod Members

@@ -1,0 +1,162 @@
+// The chain's shape: which replicas are live, in which order, and which switch they permit.
+ghost use mathlib.Core.Path.{_≡_};
+ghost use Prim.Native.Nat.{_≤_, _<_};
+ghost use Rattle.store.specs.{liveCount, orderAt};
+ghost use Rattle.chain.specs.{chainPlace, isLive, memberAt, headOf, tailOf, chosenBy, permits, allPermit, permitting, removed, numbered, emptyStore};
+use limits::Number;
+use limits::REPLICAS;
+use limits::Replica;
+use store::CELLS;
+use store::LIVE;
+use store::ORDER;
+use store::PERMITS;
+
+fn wide(x: u32) -> usize
+    ensures { λ r. ⌜ r ≡ x ⌝ }
+{
+    x as usize
+}
+
+// How many replicas are live.
+pub fn count(cells: &[u32; CELLS]) -> usize
+    ensures { λ r. ⌜ (r ≡ liveCount (now (cells .entry))) × (r ≤ 8) ⌝ }
+{
+    let n = wide(cells[LIVE]);
+    if REPLICAS < n {
+        return REPLICAS;
+    }
+    n
+}
+
+// The replica at a place, live or not.
+fn at(cells: &[u32; CELLS], place: usize) -> Replica
+    requires { ⌜ place < 8 ⌝ }
+    ensures { λ r. ⌜ r ≡ orderAt (now (cells .entry)) place ⌝ }
+{
+    (cells[ORDER + place] % 256) as Replica
+}
+
+pub fn member(cells: &[u32; CELLS], place: usize) -> Replica
+    ensures { λ r. ⌜ r ≡ memberAt (now (cells .entry)) place ⌝ }
+{
+    if count(cells) <= place {
+        return 0;
+    }
+    at(cells, place)
+}
+
+pub fn head(cells: &[u32; CELLS]) -> Replica
+    ensures { λ r. ⌜ r ≡ headOf (now (cells .entry)) ⌝ }
+{
+    member(cells, 0)
+}
+
+pub fn tail(cells: &[u32; CELLS]) -> Replica
+    ensures { λ r. ⌜ r ≡ tailOf (now (cells .entry)) ⌝ }
+{
+    let n = count(cells);
+    if n == 0 {
+        return 0;
+    }
+    at(cells, n - 1)
+}
+
+// The live replica that a choice names: at place (choice mod number of live replicas).
+pub fn choose(cells: &[u32; CELLS], choice: u8) -> Replica
+    ensures { λ r. ⌜ r ≡ chosenBy (now (cells .entry)) choice ⌝ }
+{
+    let n = count(cells);
+    if n == 0 {
+        return 0;
+    }
+    at(cells, (choice as usize) % n)
+}
+
+// The replica's place in the chain, or the number of live replicas where it is gone.
+pub fn place(cells: &[u32; CELLS], r: Replica) -> usize
+    ensures { λ x. ⌜ x ≡ chainPlace (now (cells .entry)) r ⌝ }
+{
+    let n = count(cells);
+    let mut i: usize = 0;
+    while i < n {
+        if at(cells, i) == r {
+            return i;
+        }
+        i += 1;
+    }
+    n
+}
+
+pub fn is_live(cells: &[u32; CELLS], r: Replica) -> bool
+    ensures { λ x. ⌜ x ≡ isLive (now (cells .entry)) r ⌝ }
+{
+    place(cells, r) < count(cells)
+}
+
+fn permits(cells: &[u32; CELLS], number: Number, r: Replica) -> bool
+    ensures { λ x. ⌜ x ≡ permits (now (cells .entry)) number r ⌝ }
+{
+    store::permitted(cells, r) == number as u32
+}
+
+// Whether every live replica permits the switch.
+pub fn all_permit(cells: &[u32; CELLS], number: Number) -> bool
+    ensures { λ x. ⌜ x ≡ allPermit (now (cells .entry)) number ⌝ }
+{
+    let n = count(cells);
+    let mut i: usize = 0;
+    while i < n {
+        if !permits(cells, number, at(cells, i)) {
+            return false;
+        }
+        i += 1;
+    }
+    true
+}
+
+pub fn permit(cells: &mut [u32; CELLS], r: Replica, number: Number)
+    ensures { λ _. ⌜ now (cells .exit) ≡ permitting (now (cells .entry)) r number ⌝ }
+{
+    let i = PERMITS + store::row(r);
+    cells[i] = number as u32;
+}
+
+// The replica is removed; unchanged where it is gone.
+pub fn remove(cells: &mut [u32; CELLS], r: Replica)
+    ensures { λ _. ⌜ now (cells .exit) ≡ removed (now (cells .entry)) r ⌝ }
+{
+    let n = count(cells);
+    let from = place(cells, r);
+    if n <= from {
+        return;
+    }
+    let last = n - 1;
+    let mut i = from;
+    while i < last {
+        let q = cells[ORDER + i + 1];
+        cells[ORDER + i] = q;
+        i += 1;
+    }
+    cells[LIVE] = last as u32;
+}
+
+// The eight replicas are numbered, and permit switch number 1.
+fn number(cells: &mut [u32; CELLS])
+    ensures { λ _. ⌜ now (cells .exit) ≡ numbered (now (cells .entry)) 8 ⌝ }
+{
+    let mut i: usize = 0;
+    while i < REPLICAS {
+        cells[ORDER + i] = i as u32 + 1;
+        cells[PERMITS + i] = 1;
+        i += 1;
+    }
+}
+
+// n replicas, with nothing written.
+pub fn clear(cells: &mut [u32; CELLS], n: u8)
+    ensures { λ _. ⌜ now (cells .exit) ≡ emptyStore n ⌝ }
+{
+    *cells = [0; CELLS];
+    number(&mut *cells);
+    cells[LIVE] = n as u32;
+}

@@ -1,0 +1,2 @@
+-- What the walks over the reader share.
+pub mod Walks

@@ -1,0 +1,56 @@
+use Prim.Native.Nat.{ℕ}
+use borrow.Author.Tests.{ne-eqb}
+use Rattle.records.specs.Records.{stepOf}
+use borrow.Author.Needs.{needs}
+use Rattle.reader.proofs.step_of.Statement.{statement}
+use Rattle.reader.proofs.step_of.Tie as tie
+
+-- the last kind is what the others leave
+give-up : tie.Need-returns-11
+unfolding stepOf
+give-up c =
+    let k : ℕ = c .before .before .before .args .kind in
+    let others = c .before .match .rest in
+    simp (
+      ne-eqb k 9 (others .1),
+      ne-eqb k 8 (others .0 .1),
+      ne-eqb k 7 (others .0 .0 .1),
+      ne-eqb k 6 (others .0 .0 .0 .1),
+      ne-eqb k 5 (others .0 .0 .0 .0 .1),
+      ne-eqb k 4 (others .0 .0 .0 .0 .0 .1),
+      ne-eqb k 3 (others .0 .0 .0 .0 .0 .0 .1),
+      ne-eqb k 2 (others .0 .0 .0 .0 .0 .0 .0 .1),
+      ne-eqb k 1 (others .0 .0 .0 .0 .0 .0 .0 .0 .1),
+      ne-eqb k 0 (others .0 .0 .0 .0 .0 .0 .0 .0 .0 .1),
+      ← c .two-at7 .ensures,
+    )
+
+pub step-of-spec : {M : Type 1} → statement M
+unfolding stepOf
+step-of-spec =
+    tie.close
+    (tie.spec
+    (λ c κs. search needs)
+    (λ c κs. search needs)
+    (λ c κs. search needs)
+    (λ c κs. search needs)
+    (λ c κs. search needs)
+    (λ c κs. search needs)
+    (λ c κs. search needs)
+    (λ c κs. search needs)
+    (λ c κs. search needs)
+    (λ c κs. search needs)
+    (λ c κs. search needs)
+    (λ c κs. search needs)
+    (λ c κs. search needs)
+    (λ c. simp (c .before .match .keys1, ← c .byte-at .ensures))
+    (λ c. simp (c .before .match .keys2, ← c .two-at .ensures))
+    (λ c. simp (c .before .before .match .keys3, ← c .before .two-at2 .ensures, ← c .four-at .ensures))
+    (λ c. simp (c .before .before .match .keys4, ← c .before .two-at3 .ensures, ← c .byte-at2 .ensures))
+    (λ c. simp (c .before .match .keys5, ← c .two-at4 .ensures))
+    (λ c. simp (c .before .match .keys6, ← c .two-at5 .ensures))
+    (λ c. simp (c .before .match .keys7, ← c .byte-at3 .ensures))
+    (λ c. simp (c .before .match .keys8, ← c .two-at6 .ensures))
+    (λ c. simp (c .before .match .keys9, ← c .byte-at4 .ensures))
+    (λ c. simp (c .before .match .keys10, ← c .byte-at5 .ensures))
+    give-up)

@@ -1,0 +1,67 @@
+-- A session of the exported library: the answer of its last start or step, in numbers, and the step that it is handed.
+use mathlib.Core.Bool.{cond}
+use mathlib.Core.List.{List}
+use Prim.Native.Nat.{ℕ}
+use lib.Dec.{eqb}
+use lib.ListN.{length}
+use Rattle.protocol.specs.declared.Answer.{Answer}
+use Rattle.protocol.specs.declared.Answer.the-variants.{Done, Finished, Refused}
+use Rattle.protocol.specs.declared.Step.{Step}
+use Rattle.protocol.specs.declared.Step.the-variants.{Start}
+use Rattle.protocol.specs.declared.Stepped.{Stepped}
+use Rattle.protocol.specs.Answers.{refusalNumber, noFreshness}
+use Rattle.protocol.specs.Steps.{startRefused, startAnswer}
+use Rattle.records.specs.declared.Found.{Found}
+use Rattle.records.specs.Records.{recordAt}
+use Rattle.sessions.specs.declared.Session.{Session}
+
+-- an answer in numbers: the refusal, or 0; the operation just finished, its value and its freshness, or 0
+abbrev pub refusalIn : Answer → ℕ
+refusalIn Done = 0
+refusalIn (Finished o v f) = 0
+refusalIn (Refused r) = refusalNumber r
+
+abbrev pub operationIn : Answer → ℕ
+operationIn Done = 0
+operationIn (Finished o v f) = o
+operationIn (Refused r) = 0
+
+abbrev pub valueIn : Answer → ℕ
+valueIn Done = 0
+valueIn (Finished o v f) = v
+valueIn (Refused r) = 0
+
+abbrev pub freshnessIn : Answer → ℕ
+freshnessIn Done = noFreshness
+freshnessIn (Finished o v f) = f
+freshnessIn (Refused r) = noFreshness
+
+-- a session after a start with n replicas: a refused one leaves the marks and what waits as they were
+unfoldable pub sessionStarted : ℕ → Session → Session
+sessionStarted n before = record {
+  refusal = refusalIn (startAnswer n);
+  operation = 0;
+  value = 0;
+  freshness = noFreshness;
+  marks = cond (startRefused n) (before .marks) 0;
+  waiting = cond (startRefused n) (before .waiting) 0;
+}
+
+-- the step of a record that fills the lent bytes; where there is none, a start, which the machine refuses by 1
+abbrev pub wholeStep : Found → ℕ → Step
+wholeStep (Found.Record x n) size = cond (eqb n size) x (Start 0)
+wholeStep Found.Malformed size = Start 0
+
+unfoldable pub askedBy : List ℕ → Step
+askedBy bytes = wholeStep (recordAt bytes 0) (length bytes)
+
+-- a session after a step
+unfoldable pub sessionAfter : Stepped → Session
+sessionAfter t = record {
+  refusal = refusalIn (t .answer);
+  operation = operationIn (t .answer);
+  value = valueIn (t .answer);
+  freshness = freshnessIn (t .answer);
+  marks = t .marks;
+  waiting = t .count;
+}

@@ -1,0 +1,135 @@
+// A session after a start or a step.
+ghost use mathlib.Core.Path.{_≡_};
+ghost use Rattle.protocol.specs.Steps.{startSwitch, startStore, startOpens};
+ghost use Rattle.sessions.specs.{refusalIn, operationIn, valueIn, freshnessIn, sessionStarted, wholeStep, askedBy, sessionAfter};
+use limits::Freshness;
+use protocol::Answer;
+use protocol::Step;
+use protocol::Stepped;
+use protocol::answers;
+use protocol::answers::NONE;
+use records::Found;
+
+// The answer of the last start or step: its refusal or 0; the operation that it finished, or 0, and that operation's value; what a finished read says of the pending
+// write that it went round (0 for none, 1 for old, 2 for new); how many marks count then. `waiting` is the count of waiting packets that goes into the next step.
+#[repr(C)]
+pub struct Session {
+    pub refusal: u8,
+    pub operation: u32,
+    pub value: u32,
+    pub freshness: u32,
+    pub marks: u32,
+    pub waiting: usize,
+}
+
+fn refusal_in(answer: Answer) -> u8
+    ensures { λ r. ⌜ r ≡ refusalIn answer ⌝ }
+{
+    match answer {
+        Answer::Done => 0,
+        Answer::Finished(o, v, f) => 0,
+        Answer::Refused(r) => answers::refusal_number(r),
+    }
+}
+
+fn operation_in(answer: Answer) -> u32
+    ensures { λ r. ⌜ r ≡ operationIn answer ⌝ }
+{
+    match answer {
+        Answer::Done => 0,
+        Answer::Finished(o, v, f) => o,
+        Answer::Refused(r) => 0,
+    }
+}
+
+fn value_in(answer: Answer) -> u32
+    ensures { λ r. ⌜ r ≡ valueIn answer ⌝ }
+{
+    match answer {
+        Answer::Done => 0,
+        Answer::Finished(o, v, f) => v,
+        Answer::Refused(r) => 0,
+    }
+}
+
+fn freshness_in(answer: Answer) -> Freshness
+    ensures { λ r. ⌜ r ≡ freshnessIn answer ⌝ }
+{
+    match answer {
+        Answer::Done => NONE,
+        Answer::Finished(o, v, f) => f,
+        Answer::Refused(r) => NONE,
+    }
+}
+
+// An empty store: no packet waits, and no mark counts. A refused start leaves what waits and what counts as it was.
+pub fn begin(
+    before: Session,
+    switch: &mut [u32; switch::CELLS],
+    store: &mut [u32; store::CELLS],
+    opens: &mut [u32; operations::CELLS],
+    n: u8,
+) -> Session
+    ensures { λ r. ⌜ (r ≡ sessionStarted n before)
+        × (now (switch .exit) ≡ startSwitch n (now (switch .entry)))
+        × (now (store .exit) ≡ startStore n (now (store .entry)))
+        × (now (opens .exit) ≡ startOpens n (now (opens .entry))) ⌝ }
+{
+    let answer = machine::start(n, &mut *switch, &mut *store, &mut *opens);
+    let refusal = refusal_in(answer);
+    if machine::start_refused(n) {
+        return Session {
+            refusal,
+            operation: 0,
+            value: 0,
+            freshness: NONE,
+            marks: before.marks,
+            waiting: before.waiting,
+        };
+    }
+    // None counts. They are counted here too so that `count` stays a call: inlined in a step it is no vector code, and the step takes a third longer.
+    let marks = switch::cells::count(switch);
+    Session {
+        refusal,
+        operation: 0,
+        value: 0,
+        freshness: NONE,
+        marks,
+        waiting: 0,
+    }
+}
+
+fn whole_step(found: Found, size: usize) -> Step
+    ensures { λ r. ⌜ r ≡ wholeStep found size ⌝ }
+{
+    match found {
+        Found::Record(x, n) => { if n == size { x } else { Step::Start(0) } }
+        Found::Malformed => Step::Start(0),
+    }
+}
+
+// The step that the machine is handed for a record: a start, which it refuses, where there is none.
+pub fn asked(bytes: &[u8]) -> Step
+    ensures { λ r. ⌜ r ≡ askedBy (now (bytes .entry)) ⌝ }
+{
+    whole_step(reader::record_at(bytes, 0), bytes.len())
+}
+
+// The session after a step.
+pub fn noted(done: Stepped) -> Session
+    ensures { λ r. ⌜ r ≡ sessionAfter done ⌝ }
+{
+    let answer = done.answer;
+    let refusal = refusal_in(answer);
+    let operation = operation_in(answer);
+    let value = value_in(answer);
+    let freshness = freshness_in(answer);
+    Session {
+        refusal,
+        operation,
+        value,
+        freshness,
+        marks: done.marks,
+        waiting: done.count,
+    }
+}

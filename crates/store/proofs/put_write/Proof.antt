@@ -1,0 +1,20 @@
+use Rattle.store.specs.{tabled}
+use borrow.Author.Needs.{needs}
+use Rattle.store.proofs.put_write.Statement.{statement}
+use Rattle.store.proofs.put_write.Tie as tie
+
+returns : tie.Need-returns
+unfolding tabled
+returns c = simp (← c .before .value-cell .ensures .0, c .stamp-cell .ensures .0)
+
+pub put-write-spec : {M : Type 1} → statement M
+put-write-spec =
+    tie.close
+    (tie.spec
+    (λ c κs. search needs)
+    (λ c. search needs)
+    (λ c. search needs)
+    (λ c κs. search needs)
+    (λ c. search needs)
+    (λ c. search needs)
+    returns)

@@ -1,0 +1,100 @@
+-- The store that a caller lends: the chain's order, what each replica keeps, and the writes that stand in the links. Where each thing lies, and what is
+-- read there.
+use mathlib.Core.List.{List}
+use Prim.Native.Nat.{ℕ, _+_, _*_, _%_, min}
+use lib.ListN.{getD, set}
+use Rattle.limits.specs as limits
+use Rattle.lists.specs.{listOf}
+use Rattle.store.specs.declared.Write.{Write}
+
+-- how many replicas are live, then the replica at each chain place
+abbrev pub liveCell : ℕ
+liveCell = 0
+
+abbrev pub orderCell : ℕ → ℕ
+orderCell place = 1 + place
+
+-- what each replica keeps, by its row
+abbrev pub highestCell : ℕ → ℕ
+highestCell row = 9 + row
+
+abbrev pub permitCell : ℕ → ℕ
+permitCell row = 17 + row
+
+abbrev pub appliedCell : ℕ → ℕ
+appliedCell row = 25 + row
+
+-- the write at a position of the log: the links hold at most 64 positions in a row, so the remainder tells them apart
+unfoldable pub entryCell : ℕ → ℕ → ℕ
+entryCell field position = 33 + field * limits.linked + position % limits.linked
+
+-- a row of 1,024 values for each replica, then as many rows of stamps
+unfoldable pub valueCell : ℕ → ℕ → ℕ
+valueCell row o = 289 + (row * limits.objects + o % limits.objects)
+
+unfoldable pub stampCell : ℕ → ℕ → ℕ
+stampCell row o = 8481 + (row * limits.objects + o % limits.objects)
+
+-- shut, so that no check counts to it
+unfoldable pub storeCells : ℕ
+storeCells = 16673
+
+-- ---- what is read
+
+-- 'a chain of n replicas': at most 8 are live in every state
+unfoldable pub liveCount : List ℕ → ℕ
+liveCount s = min limits.replicas (getD s liveCell 0)
+
+-- a replica's number has 8 bits
+unfoldable pub orderAt : List ℕ → ℕ → ℕ
+orderAt s place = getD s (orderCell place) 0 % 256
+
+-- the live replicas in chain order, the head first
+unfoldable pub members : List ℕ → List ℕ
+members s = listOf (orderAt s) (liveCount s)
+
+-- each replica number, 1 to 8, has a row of its own
+unfoldable pub rowOf : ℕ → ℕ
+rowOf r = r % limits.replicas
+
+-- 'the highest stamp it has applied, and a permitted switch number'
+unfoldable pub highestOf : List ℕ → ℕ → ℕ
+highestOf s r = getD s (highestCell (rowOf r)) 0
+
+unfoldable pub permittedBy : List ℕ → ℕ → ℕ
+permittedBy s r = getD s (permitCell (rowOf r)) 0
+
+-- how many writes it has applied, of the log of writes that the head has applied
+unfoldable pub appliedBy : List ℕ → ℕ → ℕ
+appliedBy s r = getD s (appliedCell (rowOf r)) 0
+
+unfoldable pub entryAt : List ℕ → ℕ → Write
+entryAt s position = record {
+  operation = getD s (entryCell 0 position) 0;
+  object = getD s (entryCell 1 position) 0;
+  value = getD s (entryCell 2 position) 0;
+  stamp = getD s (entryCell 3 position) 0;
+}
+
+-- 'its own value and stamp for each object'
+unfoldable pub valueAt : List ℕ → ℕ → ℕ → ℕ
+valueAt s r o = getD s (valueCell (rowOf r) o) 0
+
+unfoldable pub stampAt : List ℕ → ℕ → ℕ → ℕ
+stampAt s r o = getD s (stampCell (rowOf r) o) 0
+
+-- ---- what is written
+
+-- a write stands at a position of the log
+unfoldable pub logged : List ℕ → ℕ → Write → List ℕ
+logged s position w =
+    set (set (set (set s (entryCell 0 position) (w .operation)) (entryCell 1 position) (w .object)) (entryCell 2 position) (w .value))
+    (entryCell 3 position) (w .stamp)
+
+-- a replica's tables take a write
+unfoldable pub tabled : List ℕ → ℕ → Write → List ℕ
+tabled s r w = set (set s (valueCell (rowOf r) (w .object)) (w .value)) (stampCell (rowOf r) (w .object)) (w .stamp)
+
+-- a replica has this highest stamp, and has applied so many writes
+unfoldable pub raised : List ℕ → ℕ → ℕ → ℕ → List ℕ
+raised s r highest applied = set (set s (highestCell (rowOf r)) highest) (appliedCell (rowOf r)) applied
