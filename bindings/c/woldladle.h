@@ -5,11 +5,11 @@
  *
  * What a session is lent, and nothing else: the libraries allocate no memory and keep nothing between calls.
  *
- *   struct woldladle_session        24 bytes, aligned to 8
+ *   struct woldladle_session        32 bytes, aligned to 8
  *   uint32_t switch_numbers[100]    400 bytes: the switch and its marks
  *   uint32_t store[16673]           66,692 bytes: the chain, the values and stamps of the replicas, and the writes in the links
  *   uint32_t opens[66]              264 bytes: the open operations
- *   packets[64]                     1,280 bytes: the waiting packets, oldest first; a longer array is taken too, and its first 64 places are used
+ *   packets[64]                     1,536 bytes: the waiting packets, oldest first; a longer array is taken too, and its first 64 places are used
  *
  * struct woldladle_model has all of it. The session is set to zeros before its first start; the rest may hold anything. From an accepted start on nobody but the
  * library writes in it, until the next accepted start. No pointer is kept, and what is lent lies apart. Lengths are in bytes, of `packets` in places. Every value of
@@ -30,21 +30,27 @@ extern "C" {
 #define WOLDLADLE_OPENS 66
 #define WOLDLADLE_PLACES 64
 #define WOLDLADLE_LONGEST_RECORD 9
-#define WOLDLADLE_LONGEST_LINE 58
+#define WOLDLADLE_LONGEST_LINE 62
 #define WOLDLADLE_LONGEST_INPUT 65536
 #define WOLDLADLE_OUTPUT_ROOM 1048576 /* room for the output of any input */
+
+/* What a finished read says, if its object had a counting mark when the switch sent it to the tail: the stamp of its value is below the mark's (old), or it is not (new). */
+#define WOLDLADLE_NONE 0
+#define WOLDLADLE_OLD 1
+#define WOLDLADLE_NEW 2
 
 /* The answer of the last start or step. */
 struct woldladle_session {
     uint8_t refusal;    /* 0, or the number of the refusal: then `marks`, `waiting` and all that is lent are as they were */
     uint32_t operation; /* the operation just finished, or 0 */
     uint32_t value;     /* and its value, or 0 */
+    uint32_t freshness; /* WOLDLADLE_OLD or WOLDLADLE_NEW, else WOLDLADLE_NONE */
     uint32_t marks;     /* marks counting */
     size_t waiting;     /* packets waiting, which the next step begins with */
 };
 
 struct woldladle_packet {
-    uint32_t own[5];
+    uint32_t own[6];
 };
 
 /* A start with n replicas: an empty store, and the session all zeros. Refusal 2 (n outside 1 to 8): the session before it can go on. */
@@ -56,7 +62,8 @@ void woldladle_step(struct woldladle_session *session, uint32_t *switch_numbers,
                     const uint8_t *record, size_t length);
 
 /* The line that the run program prints for record `number`, from the session's fields. How many bytes, 0 where `out` is too short and left as it was. */
-size_t woldladle_line(uint32_t number, uint8_t refusal, uint32_t operation, uint32_t value, size_t waiting, uint32_t marks, uint8_t *out, size_t length);
+size_t woldladle_line(uint32_t number, uint8_t refusal, uint32_t operation, uint32_t value, uint32_t freshness, size_t waiting, uint32_t marks, uint8_t *out,
+                      size_t length);
 
 /* Writes the record of a tag with its numbers in their order, 0 for one that it does not have. 0; or 1 where no such record exists; or 15 where `out` is too short. */
 uint8_t woldladle_write_record(uint8_t tag, uint32_t first, uint32_t second, uint8_t *out, size_t length);
@@ -94,7 +101,7 @@ static inline uint8_t woldladle_model_step(struct woldladle_model *model, const 
 
 static inline size_t woldladle_model_line(const struct woldladle_model *model, uint32_t number, uint8_t *out, size_t length) {
     const struct woldladle_session *s = &model->session;
-    return woldladle_line(number, s->refusal, s->operation, s->value, s->waiting, s->marks, out, length);
+    return woldladle_line(number, s->refusal, s->operation, s->value, s->freshness, s->waiting, s->marks, out, length);
 }
 
 #ifdef __cplusplus

@@ -24,9 +24,9 @@ pub enum Answer {
     Refused(u8),
 }
 
-/// What a finished read says of the pending write that it went round: `Old` if
-/// its value's stamp is below that write's, `New` if not; `None` where it went
-/// round none, and for every write.
+/// What a finished read says, if its object had a counting mark when the switch
+/// sent it to the tail: `Old` if the stamp of its value is below the mark's, `New`
+/// if not. `None` for every other read, and for a write.
 #[derive(Clone, Copy, Debug, PartialEq, Eq)]
 pub enum Freshness {
     None,

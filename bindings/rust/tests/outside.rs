@@ -4,7 +4,8 @@
 use second_model::generate::{generate, Random, KINDS};
 use second_model::{records, run::output};
 use woldladle::{
-    record_length, run, write_record, Answer, Model, LONGEST_LINE, LONGEST_RECORD, OUTPUT_ROOM,
+    record_length, run, write_record, Answer, Freshness, Model, LONGEST_LINE, LONGEST_RECORD,
+    OUTPUT_ROOM,
 };
 
 /// The lines of a file, record by record through the library; a run that ends
@@ -14,7 +15,7 @@ fn lines(file: &[u8]) -> Option<Vec<u8>> {
     let (first, rest) = pieces.split_first()?;
     let [32, 0, 1, n] = **first else { return None };
     let mut model = Model::start(n).ok()?;
-    let mut out = b"1 ok 0 0 - -\n".to_vec();
+    let mut out = b"1 ok 0 0 - - -\n".to_vec();
     let mut line = [0; LONGEST_LINE];
     for (number, record) in (2..).zip(rest) {
         if model.step(record) == Answer::Refused(1) {
@@ -140,7 +141,7 @@ fn a_refused_restart_leaves_the_session_going_on() {
     assert_eq!(model.restart(8), Ok(()));
     assert_eq!((model.waiting(), model.marks()), (0, 0));
     let size = model.line(1, &mut line);
-    assert_eq!(&line[..size], b"1 ok 0 0 - -\n");
+    assert_eq!(&line[..size], b"1 ok 0 0 - - -\n");
 }
 
 /// Steps with these numbers.
@@ -148,6 +149,50 @@ fn step(model: &mut Model, tag: u8, first: u32, second: u32) -> Answer {
     let mut record = [0; LONGEST_RECORD];
     let size = write_record(tag, first, second, &mut record).expect("a record");
     model.step(&record[..size])
+}
+
+fn finished(operation: u32, value: u32, freshness: Freshness) -> Answer {
+    Answer::Finished {
+        operation,
+        value,
+        freshness,
+    }
+}
+
+#[test]
+fn a_read_says_whether_it_overtook_the_pending_write() {
+    let mut model = Model::start(1).expect("one");
+    let mut line = [0; LONGEST_LINE];
+    for (tag, first, second) in [
+        (2, 5, 9), // begin a write of object 5
+        (1, 5, 0), // .. and two reads
+        (1, 5, 0),
+        (3, 0, 0), // the switch marks the write
+        (3, 0, 0), // .. and sends both reads to the tail
+        (3, 0, 0),
+        (3, 1, 0), // one read is answered before the write
+        (3, 0, 0),
+        (3, 0, 0), // .. and one after it
+    ] {
+        assert_eq!(step(&mut model, tag, first, second), Answer::Done);
+    }
+    let old = finished(2, 0, Freshness::Old);
+    assert_eq!(step(&mut model, 3, 0, 0), old);
+    let size = model.line(11, &mut line);
+    assert_eq!(&line[..size], b"11 ok 3 1 2 0 old\n");
+    let written = finished(1, 9, Freshness::None);
+    assert_eq!(step(&mut model, 3, 0, 0), written);
+    assert_eq!(step(&mut model, 3, 0, 0), Answer::Done);
+    let new = finished(3, 9, Freshness::New);
+    assert_eq!(step(&mut model, 3, 0, 0), new);
+    let size = model.line(14, &mut line);
+    assert_eq!(&line[..size], b"14 ok 0 0 3 9 new\n");
+    // no mark counts any more, so the next read goes directly and says nothing
+    for (tag, first, second) in [(1, 5, 0), (3, 0, 0), (3, 0, 0)] {
+        assert_eq!(step(&mut model, tag, first, second), Answer::Done);
+    }
+    let direct = finished(4, 9, Freshness::None);
+    assert_eq!(step(&mut model, 3, 0, 0), direct);
 }
 
 #[test]
@@ -160,8 +205,7 @@ fn operations_and_counters_are_used_up_together() {
         );
         assert_eq!(step(&mut model, 3, 0, 0), Answer::Done);
         assert_eq!(step(&mut model, 3, 0, 0), Answer::Done);
-        let value = operation;
-        let finished = Answer::Finished { operation, value };
+        let finished = finished(operation, operation, Freshness::None);
         assert_eq!(step(&mut model, 3, 0, 0), finished);
         assert_eq!(step(&mut model, 3, 0, 0), Answer::Done);
     }
@@ -203,12 +247,12 @@ fn records_are_written_whole_or_not_at_all() {
 fn a_line_needs_its_room() {
     let mut model = Model::start(2).expect("two");
     assert_eq!(step(&mut model, 1, 5, 0), Answer::Done);
-    let mut line = [0xaa; 12];
-    assert_eq!(model.line(2, &mut line), 0);
-    assert_eq!(line, [0xaa; 12]);
     let mut line = [0xaa; 14];
-    assert_eq!(model.line(2, &mut line), 13);
-    assert_eq!(&line, b"2 ok 1 0 - -\n\xaa");
+    assert_eq!(model.line(2, &mut line), 0);
+    assert_eq!(line, [0xaa; 14]);
+    let mut line = [0xaa; 16];
+    assert_eq!(model.line(2, &mut line), 15);
+    assert_eq!(&line, b"2 ok 1 0 - - -\n\xaa");
 }
 
 #[test]

@@ -3,9 +3,12 @@ ghost use mathlib.Core.Path.{_≡_};
 ghost use Prim.Native.Nat.{_+_, _≤_, min};
 ghost use lib.ListN.{length};
 ghost use Rattle.io.specs.Counts.{Counts};
+ghost use Rattle.agreement.specs.{standsIn, sameBytes};
 
 // Whether the bytes of `part` stand in `s` from a place on.
-fn stands_at(s: &[u8], at: usize, part: &[u8]) -> bool {
+fn stands_at(s: &[u8], at: usize, part: &[u8]) -> bool
+    ensures { λ r. ⌜ r ≡ standsIn (now (s .entry)) at (now (part .entry)) ⌝ }
+{
     if s.len() < at {
         return false;
     }
@@ -22,7 +25,9 @@ fn stands_at(s: &[u8], at: usize, part: &[u8]) -> bool {
     true
 }
 
-fn same(a: &[u8], b: &[u8]) -> bool {
+fn same(a: &[u8], b: &[u8]) -> bool
+    ensures { λ r. ⌜ r ≡ sameBytes (now (a .entry)) (now (b .entry)) ⌝ }
+{
     if a.len() != b.len() {
         return false;
     }

@@ -1,5 +1,6 @@
 // Which rule decides a step, and which a delivery: crates/delivery and crates/steps have the rules.
-ghost use Rattle.protocol.specs.Decisions.{given, Leaves};
+ghost use Rattle.protocol.specs.Decisions.{given};
+ghost use Rattle.dispatch.specs.{Leaves};
 ghost use mathlib.Core.Path.{_≡_};
 ghost use Rattle.protocol.specs.Steps.{delivered, isMalformed, decided, decidedIn};
 ghost use Rattle.waiting.specs.Waiting.{heldIn};

@@ -10,7 +10,7 @@ use lib.ListN.{length, take, length-append}
 use lib.Seq.{slice}
 use borrow.Author.Tests.{eqb-true, eqb-false}
 use Rattle.history.specs.History.{_∈_, reads, writes, History, begun, finished}
-use Rattle.history.proofs.Lists.{here, there, inserted, cases-cons, cases-append, only-member}
+use Rattle.history.proofs.Lists.{here, there, cases-cons, cases-append, only-member}
 use Rattle.history.proofs.Tests.{by-test}
 use Rattle.history.proofs.Entries.{Entry, Unfinished}
 use Rattle.history.proofs.Growth.{older, begun-not-finished}

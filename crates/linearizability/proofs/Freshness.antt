@@ -4,14 +4,13 @@ use mathlib.Core.Path.{_≡_, refl, sym, ap, _∙_, subst}
 use mathlib.Core.Logic.{inl, inr}
 use mathlib.Core.Bool.{true}
 use mathlib.Core.List.{List, [], _∷_, _++_}
-use Prim.Native.Nat.{ℕ, _≤_, _<_}
+use Prim.Native.Nat.{ℕ, _≤_}
 use lib.ListN.{take}
 use Rattle.history.specs.History.{_∈_, reads, History, begun}
 use Rattle.history.specs.Linearizability.{Ahead}
 use Rattle.history.proofs.Lists.{here, ahead-first, ahead-append, ahead-front, ahead-map}
 use Rattle.history.proofs.Tests.{by-test}
 use Rattle.history.proofs.Entries.{Entry, read-entry, empty}
-use Rattle.history.proofs.Readable.{placed}
 use Rattle.history.proofs.Place.{ahead-place}
 use Rattle.history.proofs.Claim.{numbers}
 use Rattle.store.specs.declared.Write.{Write}
@@ -40,7 +39,7 @@ use Rattle.linearizability.proofs.Packets.{Answered}
 use Rattle.linearizability.proofs.Order.{objectsOf, finishOrder, finish-read}
 use Rattle.linearizability.proofs.Waits.{messages, Stands, stands-in, at-position}
 use Rattle.linearizability.proofs.Invariant.{Good, finishing, madeVisible, orderNext, order-stays}
-use Rattle.linearizability.proofs.OneOrder.{orderFrom, orderOf}
+use Rattle.linearizability.proofs.OneOrder.{orderFrom}
 use Rattle.linearizability.proofs.Limits.{reached, machineOf, good-run}
 
 -- ---- what stands before something in the order stays before it

@@ -12,7 +12,7 @@ use Rattle.protocol.specs.declared.Answer.{Answer}
 use Rattle.protocol.specs.declared.Answer.the-variants.{Done, Finished, Refused}
 use Rattle.protocol.specs.declared.Refusal.the-variants.{NotOpen}
 use Rattle.protocol.specs.Answers.{refusalNumber, noFreshness, oldRead, newRead}
-use Rattle.lines.specs.Lines.{digits, places, decimal, okStart, freshnessEnd, finishEnd, noFinish, noLine, lineOf}
+use Rattle.lines.specs.Lines.{digits, places, decimal, okStart, freshnessEnd, finishEnd, noLine, lineOf}
 use Rattle.lines.proofs.Numbers.{decimal-places, decimal-length}
 
 -- no line has more bytes

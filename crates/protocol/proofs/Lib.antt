@@ -3,6 +3,5 @@
 pub mod Refusals
 pub mod Points
 pub mod Room
-pub mod Leaves
 pub mod Finished
 pub mod Freshness

@@ -4,7 +4,7 @@ use mathlib.Core.Bool.{Bool, true, false, cond, not}
 use mathlib.Core.List.{List, [], _∷_}
 use Prim.Native.Nat.{ℕ, _+_}
 use lib.Dec.{eqb}
-use lib.ListN.{length, getD, set, replicate}
+use lib.ListN.{replicate}
 use Rattle.limits.specs as limits
 use Rattle.lists.specs.{indexOf, listOf, moves}
 use Rattle.stamp.specs.Stamps.{stampOf, numberOf, counterOf, isAbove, largerOf}
@@ -27,7 +27,7 @@ use Rattle.protocol.specs.Answers.{refusalNumber, noFreshness}
 use Rattle.protocol.specs.Messages.{packetOf, messageOf, isUnstamped}
 use Rattle.protocol.specs.Decisions.{refusing, passing, overfull}
 use Rattle.protocol.specs.Delivery.{directRead, stampedWrite, deliveredMessage}
-use Rattle.protocol.specs.Steps.{Machine, machine, startRefused, startAnswer, started, beginOperation, delivered, repeated, positionOf, isMalformed, decided, decidedIn, answerTo, after}
+use Rattle.protocol.specs.Steps.{Machine, machine, startRefused, startAnswer, beginOperation, delivered, repeated, positionOf, isMalformed, decided, decidedIn, answerTo, after}
 
 -- a point of document 01: its number, and tests that must all pass
 pub record Point : Type 0 where

@@ -1,5 +1,4 @@
 -- What is decided of a step: its answer, an edit of the waiting list, and what the lent numbers of each layer then are.
-use mathlib.Core.Path.{_≡_}
 use mathlib.Core.Bool.{Bool, true, false}
 use mathlib.Core.List.{List}
 use Prim.Native.Nat.{ℕ, _+_, _-_}
@@ -30,13 +29,6 @@ pub record Outcome : Type 0 where
   pub switch : List ℕ
   pub store : List ℕ
   pub opens : List ℕ
-
--- a decision, and what is lent then, are those of an outcome
-pub record Leaves (d : Decision) (switch store opens : List ℕ) (u : Outcome) : Type 0 where
-  pub decides : d ≡ u .decision
-  pub switch-is : switch ≡ u .switch
-  pub store-is : store ≡ u .store
-  pub opens-is : opens ≡ u .opens
 
 -- a decision with the one part that it changes
 pub record Switched : Type 0 where

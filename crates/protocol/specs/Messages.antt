@@ -1,5 +1,5 @@
 -- The kinds of packet of document 01, 'What delivery does', and how a packet holds each.
-use mathlib.Core.Bool.{Bool, true, false, cond}
+use mathlib.Core.Bool.{Bool, cond}
 use Prim.Native.Nat.{ℕ}
 use lib.Dec.{eqb}
 use Rattle.store.specs.declared.Write.{Write}

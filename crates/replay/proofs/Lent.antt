@@ -24,7 +24,7 @@ use ghost.Atoms.{Atoms, sem}
 use contract.Monad.{Fun, fact}
 use types.Kit.{Given, ‵, raw, given, _⊛_, some, later, _$_, _∵_, !, qed, move, drop, use1, use2, use3, rewrite, split, join, pick, learn, check, fsplit, fjoin, feqL, frame, await, updating, now as at-once, show, done}
 use types.Tokens.{lft-new, lft-end}
-use denote.RattleType.{RattleType, owns}
+use denote.RattleType.{RattleType}
 use denote.Laws.{Is, shows}
 use denote.Plain.{uint-makes}
 use denote.Builtin.{u8, usize}
@@ -45,7 +45,7 @@ use Rattle.machine.proofs.Lent.{Switch, Store, Opens}
 use Rattle.turns.specs.declared.Run.{Run}
 use Rattle.turns.specs.declared.Ran.{Ran}
 use Rattle.turns.specs.Turns.{Standing, nextPrinted}
-use Rattle.turns.specs.Contracts.{Turned, Stands, standsAs, turned, oneTurn}
+use Rattle.turns.specs.Contracts.{Stands, standsAs, turned, oneTurn}
 use Rattle.turns.proofs.Run as TR
 use Rattle.turns.proofs.Run.Laws as TR′
 use Rattle.turns.proofs.Ran as TN

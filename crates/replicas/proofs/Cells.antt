@@ -1,11 +1,10 @@
 -- The laws of the lent store for the crates above: what is read after each change, with no cell number in sight.
-use mathlib.Core.Path.{_≡_, refl, sym, ap, _∙_}
-use mathlib.Core.Bool.{true, false, cond}
+use mathlib.Core.Path.{_≡_, refl, ap, _∙_}
 use mathlib.Core.List.{List}
-use Prim.Native.Nat.{ℕ, zero, suc, _+_, _*_, _-_, _%_, _≤_, _<_, min}
+use Prim.Native.Nat.{ℕ, _+_, _-_, _%_, _≤_, _<_, min}
 use native.Mathlib.Omega.{arith}
 use lib.Dec.{lit<}
-use lib.ListN.{length, getD, set, replicate, length-set, length-replicate}
+use lib.ListN.{length, getD, set, length-set}
 use lib.Seq.{getD-set-same, getD-set-other}
 use borrow.Author.Tests.{lt-ltb}
 use Rattle.limits.specs as limits
@@ -14,7 +13,7 @@ use Rattle.lists.proofs.Closing.{length-moves}
 use Rattle.lists.proofs.Places.{listOf-same, getD-moves-other}
 use Rattle.stamp.specs.Stamps.{largerOf}
 use Rattle.store.specs.declared.Write.{Write}
-use Rattle.store.specs.{highestCell, permitCell, appliedCell, entryCell, valueCell, stampCell, storeCells, liveCount, orderAt, members, rowOf, highestOf}
+use Rattle.store.specs.{entryCell, valueCell, stampCell, storeCells, liveCount, orderAt, members, rowOf, highestOf}
 use Rattle.store.specs.{permittedBy, appliedBy, entryAt, valueAt, stampAt, logged, tabled, raised}
 use Rattle.chain.specs.{chainPlace, isLive, permitting, removed}
 use Rattle.replicas.specs.Replicas.{nextPosition, applying}

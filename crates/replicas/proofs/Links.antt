@@ -1,7 +1,7 @@
 -- Document 01 on links, proved of the log: removing a replica joins its two links, advancing takes the oldest write of one link and puts it
 -- last in the next, and an accepted write goes last in the head's outgoing link. A write that is applied leaves every other link as it is.
 use mathlib.Core.Path.{_≡_, refl, sym, ap, _∙_}
-use mathlib.Core.Bool.{Bool, true, false, cond}
+use mathlib.Core.Bool.{Bool, true, false}
 use mathlib.Core.List.{List, [], _∷_, _++_}
 use Prim.Native.Nat.{ℕ, zero, suc, _+_, _-_, _≤_, _<_}
 use native.Mathlib.Nat.{zero-add, suc-add, le-refl}

@@ -2,10 +2,10 @@
 use mathlib.Core.Path.{_≡_, refl, ap, sym, _∙_, subst}
 use mathlib.Core.Bool.{Bool, true, false, cond}
 use mathlib.Core.List.{List, [], _∷_, _++_, append-assoc, append-nil}
-use Prim.Native.Nat.{ℕ, zero, suc, _+_, _-_, _<_, _≤_, min}
-use native.Mathlib.Nat.{add-zero, zero-add}
+use Prim.Native.Nat.{ℕ, zero, suc, _+_, _-_, _<_, _≤_}
+use native.Mathlib.Nat.{add-zero}
 use native.Mathlib.Omega.{arith}
-use lib.Dec.{leb, ltb, T}
+use lib.Dec.{leb, T}
 use lib.ListN.{length, take, drop, replicate, length-append, take-append-drop}
 use lib.Seq.{length-take-le}
 use borrow.Author.Tests.{le-leb, lt-leb, lt-ltb, leb-true, leb-false}
@@ -22,7 +22,7 @@ use Rattle.protocol.specs.Steps.{Machine, machine}
 use Rattle.records.specs.declared.Next.{Next}
 use Rattle.turns.specs.declared.Run.{Run}
 use Rattle.turns.specs.declared.Ran.{Ran}
-use Rattle.turns.specs.Turns.{Standing, Printed, continued, nextPrinted, firstPrinted}
+use Rattle.turns.specs.Turns.{Standing, continued, nextPrinted, firstPrinted}
 use Rattle.runs.specs.Runs.{linesFrom, joined, fitting, holding, untouched, linesOn, linesOf, printed}
 use Rattle.turns.specs.Contracts.{Turned, turnedTo, turned, goesOn, placeAfter, lastPlace, Stands, standsAs, oneTurn}
 use Rattle.runs.specs.Contracts.{InUse, toPrint}

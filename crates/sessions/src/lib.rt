@@ -87,14 +87,12 @@ pub fn begin(
             waiting: before.waiting,
         };
     }
-    // None counts. They are counted here too so that `count` stays a call: inlined in a step it is no vector code, and the step takes a third longer.
-    let marks = switch::cells::count(switch);
     Session {
         refusal,
         operation: 0,
         value: 0,
         freshness: NONE,
-        marks,
+        marks: 0,
         waiting: 0,
     }
 }

@@ -4,7 +4,7 @@ use mathlib.Core.Path.{_≡_, refl, sym, ap, _∙_}
 use mathlib.Core.Bool.{Bool, true, false, cond}
 use mathlib.Core.List.{List}
 use mathlib.Core.Logic.{_⊎_, inl, inr}
-use Prim.Native.Nat.{ℕ, _+_, _≤_, _<_, max}
+use Prim.Native.Nat.{ℕ, _≤_, _<_}
 use native.Mathlib.Omega.{arith}
 use native.Mathlib.Decide.{ℕ-discrete}
 use lib.Dec.{eqb}
@@ -13,10 +13,10 @@ use Rattle.stamp.specs.Stamps.{stampOf, isAbove, largerOf}
 use Rattle.stamp.proofs.Laws.{lt-above, le-above, above-true, above-false, larger-is}
 use Rattle.switch.specs.Numbers.{slots, numberIn, counterIn, committedIn, slotObject, slotStamp}
 use Rattle.slots.specs.{firstSlot, secondSlot, thirdSlot, holdsObject, countsAbove, isFree, holdsAbove}
-use Rattle.switch.specs.DirtySet.{holdsAt, firstOf, freeSlot, slotFor, markAbove, lookedUp, nextStamp, marking, marked, stampFor, completed, newSwitch}
+use Rattle.switch.specs.DirtySet.{holdsAt, freeSlot, slotFor, markAbove, lookedUp, nextStamp, marking, marked, stampFor, completed, newSwitch}
 use Rattle.switch.proofs.FirstSlot.{Own, Least, NonePasses, own-below, first-same, first-gives, first-at, first-none}
 use Rattle.switch.proofs.Laws.{SizedSwitch, MarkedCases, marked-cases, next-stamp-used, next-above-committed, object-marking, stamp-marking, object-unmarked, stamp-unmarked, marked-committed}
-use Rattle.switch.proofs.Laws.{completed-committed, object-completed, stamp-completed, new-committed, stamp-new}
+use Rattle.switch.proofs.Laws.{completed-committed, object-completed, stamp-completed, stamp-new}
 
 -- ---- tests of one slot
 

@@ -104,20 +104,21 @@ pub fn lookup(cells: &[u32; CELLS], o: Object) -> Stamp
     0
 }
 
-// How many marks count.
+// How many marks count. A slot whose mark counts adds 65,536 and its own number to the sum: of ones the compiler would make a mask and count its bits, which takes longer
+// than adding vectors.
 pub fn count(cells: &[u32; CELLS]) -> u32
     ensures { λ r. ⌜ r ≡ countedMarks (now (cells .entry)) ⌝ }
 {
     let c = committed(cells);
-    let mut n: u32 = 0;
+    let mut sum: u32 = 0;
     let mut i: usize = 0;
     while i < SLOTS {
         if stamp::above(stamp_at(cells, i), c) {
-            n += 1;
+            sum += 65536 + i as u32;
         }
         i += 1;
     }
-    n
+    sum / 65536
 }
 
 // ---- a mark

@@ -8,10 +8,10 @@ use native.Mathlib.Omega.{arith}
 use lib.Dec.{leb, ltb}
 use lib.ListN.{length, getD, set, take, length-take, length-set}
 use lib.Seq.{getD-take, take-suc-set}
-use borrow.Author.Tests.{leb-true, leb-false, ltb-true, lt-ltb, le-ltb, le-leb}
+use borrow.Author.Tests.{leb-true, leb-false, lt-ltb, le-ltb, le-leb}
 use Rattle.limits.specs as limits
 use Rattle.lists.specs.{moves, without}
-use Rattle.lists.proofs.Closing.{length-moves, length-without, take-moves}
+use Rattle.lists.proofs.Closing.{length-moves, take-moves}
 use Rattle.waiting.specs.declared.Packet.{Packet}
 use Rattle.waiting.specs.declared.Edit.{Edit}
 use Rattle.waiting.specs.Waiting.{WaitingList, waitingList, blank, heldIn, held, waits, noneWait, lookAt, takesOut, leftBy, fits, afterTaking, adding, edited, added}

@@ -13,8 +13,7 @@ use Rattle.lists.specs.{moves}
 use Rattle.lists.proofs.Closing.{length-moves}
 use Rattle.waiting.specs.declared.Packet.{Packet}
 use Rattle.waiting.specs.declared.Edit.{Edit}
-use Rattle.waiting.specs.declared.Plan.{Plan}
-use Rattle.waiting.specs.Waiting.{WaitingList, waitingList, blank, heldIn, takesOut, leftBy, fits, afterTaking, adding, edited}
+use Rattle.waiting.specs.Waiting.{waitingList, blank, heldIn, takesOut, leftBy, fits, afterTaking, adding, edited}
 use Rattle.waiting.specs.Plans.{still, moving, planned, planOf, carried}
 
 -- past the end `set` changes nothing

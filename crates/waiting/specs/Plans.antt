@@ -1,5 +1,5 @@
 -- What an edit does, place by place: what moves and where new packets go. The code follows a plan; proofs/Plans.antt says that it makes `edited`.
-use mathlib.Core.Bool.{Bool, cond}
+use mathlib.Core.Bool.{cond}
 use mathlib.Core.List.{List}
 use Prim.Native.Nat.{ℕ, _+_, _-_}
 use lib.ListN.{set}

@@ -1,31 +1,25 @@
 -- No operation of a session has number 0, so that 0 can stand for none: what every start gives, and every step keeps.
-use mathlib.Core.Path.{_≡_, refl, sym, ap, subst, _∙_}
+use mathlib.Core.Path.{_≡_, refl, sym, ap, _∙_}
 use mathlib.Core.Logic.{inl, inr}
 use mathlib.Core.Bool.{Bool, true, false, cond}
 use mathlib.Core.List.{List}
 use Prim.Native.Nat.{ℕ, _+_, _≤_}
 use native.Mathlib.Omega.{arith}
-use lib.Dec.{eqb, leb, ltb}
+use lib.Dec.{leb, ltb}
 use lib.ListN.{length}
 use Rattle.limits.specs as limits
 use Rattle.operations.specs.{lastGiven, noneOpen, isOpen, roomToOpen, opening, closing}
 use Rattle.operations.proofs.Laws.{SizedOpens, sized-none, sized-opening, sized-closing, none-open, OpenOnce, once-none, once-opening, once-closing, open-before, open-after-closing, last-opening, last-closing}
-use Rattle.chain.specs.{isLive, tailOf, allPermit}
-use Rattle.replicas.specs.Replicas.{accepts, answersDirect}
-use Rattle.switch.specs.Numbers.{numberIn, directIn}
-use Rattle.switch.specs.DirtySet.{lookedUp, stampFor}
 use Rattle.waiting.specs.declared.Packet.{Packet}
 use Rattle.waiting.specs.Waiting.{lookAt}
-use Rattle.protocol.specs.declared.Answer.{Answer}
-use Rattle.protocol.specs.declared.Answer.the-variants.{Done, Finished, Refused}
+use Rattle.protocol.specs.declared.Answer.the-variants.{Finished}
 use Rattle.protocol.specs.declared.Message.{Message}
 use Rattle.protocol.specs.declared.Message.the-variants.{UnstampedWrite, SwitchRead, StampedWrite, DirectRead, NormalRead, Completion, Reply, Unknown}
-use Rattle.protocol.specs.declared.Decision.{Decision}
 use Rattle.protocol.specs.declared.Step.{Step}
 use Rattle.protocol.specs.declared.Step.the-variants.{Start, BeginRead, BeginWrite, Deliver, Lose, Repeat, Advance, Replace, Tell, Remove, GiveUp}
 use Rattle.protocol.specs.Messages.{messageOf}
-use Rattle.protocol.specs.Decisions.{Given, Outcome, Switched, Stored, Opened, refusing, dropping, passing, overfull}
-use Rattle.protocol.specs.Delivery.{stamping, unstampedWrite, switchRead, stampedWrite, directRead, normalRead, completion, reply, deliveredMessage}
+use Rattle.protocol.specs.Decisions.{Given, Outcome, Opened, overfull}
+use Rattle.protocol.specs.Delivery.{reply, deliveredMessage}
 use Rattle.protocol.specs.Steps.{Machine, givenBy, positionOf, isMalformed, beginOperation, delivered, givingUp, decided, decidedIn, answerTo, after, startRefused, startOpens}
 use Rattle.protocol.proofs.Refusals.{finished-by-deliver}
 use Rattle.protocol.proofs.Finished.{finished-by-reply}

@@ -1,10 +1,11 @@
--- What is refused changes nothing: a step of a session, and a start.
+-- What is refused changes nothing: a step of a session, and a start. The marks of a session are those that count.
 use mathlib.Core.Path.{_≡_, refl, sym, ap, _∙_}
 use mathlib.Core.Logic.{_⊎_, inl, inr, _≢_}
 use mathlib.Core.Bool.{true, false}
 use mathlib.Core.List.{List}
 use Prim.Native.Nat.{ℕ}
 use Rattle.switch.specs.DirtySet.{countedMarks}
+use Rattle.switch.proofs.Laws.{new-counted}
 use Rattle.waiting.specs.declared.Packet.{Packet}
 use Rattle.waiting.specs.Waiting.{waitingList}
 use Rattle.protocol.specs.declared.Answer.{Answer}
@@ -36,6 +37,15 @@ module _ (u : Session) (switch store opens : List ℕ) (packets : List Packet) (
   session-unchanged h =
       let same = kept was (askedBy bytes) (answerTo was (askedBy bytes)) refl h in
       (same, ap (λ (m : Machine). m .waiting .count) same, λ e. ap (λ (m : Machine). countedMarks (m .switch)) same ∙ sym e)
+
+-- after a step, and after an accepted start, they are those that count
+pub step-counted : (m : Machine) (x : Step) → sessionAfter (steppedBy m x) .marks ≡ countedMarks (after m x .switch)
+unfolding sessionAfter
+step-counted m x = refl
+
+pub start-counted : (n : ℕ) (u : Session) (switch : List ℕ) → startRefused n ≡ false → sessionStarted n u .marks ≡ countedMarks (startSwitch n switch)
+unfolding sessionStarted startSwitch
+start-counted n u switch e = rw (e, new-counted)
 
 -- a refused start: everything but the refusal, the operation, its value and its freshness is as it was
 abbrev StartKept : ℕ → Session → Type 0

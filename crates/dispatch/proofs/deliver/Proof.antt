@@ -3,7 +3,7 @@ use borrow.Author.Tests.{le-leb, lt-leb}
 use borrow.Author.Needs.{needs}
 use Rattle.protocol.specs.Delivery.{deliveredMessage}
 use Rattle.protocol.specs.Steps.{delivered}
-use Rattle.protocol.proofs.Leaves.{leaves}
+use Rattle.dispatch.proofs.Leaves.{leaves}
 use Rattle.dispatch.proofs.deliver.Statement.{statement}
 use Rattle.dispatch.proofs.deliver.Tie as tie
 

@@ -1,4 +1,3 @@
-use mathlib.Core.Path.{_∙_}
 use Rattle.lines.specs.Lines.{lineOf}
 use borrow.Author.Needs.{needs}
 use Rattle.lines.proofs.put_line.Statement.{statement}

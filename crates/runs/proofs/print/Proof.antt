@@ -1,4 +1,3 @@
-use mathlib.Core.Path.{ap, _∙_}
 use Rattle.operations.specs.{noneOpen}
 use Rattle.chain.specs.{emptyCells}
 use borrow.Author.Needs.{needs}

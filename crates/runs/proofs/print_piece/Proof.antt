@@ -61,7 +61,7 @@ use Rattle.turns.proofs.Ran as TN
 use Rattle.turns.proofs.Ran.Laws as TN′
 use Rattle.runs.proofs.Piece as TP
 use Rattle.runs.proofs.Piece.Laws as TP′
-use Rattle.replay.proofs.Lent.{Loan, loan, token, fields-of, ran-run, ran-used, shared-slice, held-ref, ended-ref, held-slice, ended-slice, Lists, handed, run-vals, ran-vals, Turning, to-turns, goes-turns, Gave, Turned-all, gives-turns}
+use Rattle.replay.proofs.Lent.{Loan, loan, token, shared-slice, held-ref, ended-ref, held-slice, ended-slice, Lists, handed, run-vals, ran-vals, Turning, to-turns, goes-turns, Gave, Turned-all, gives-turns}
 use Rattle.replay.proofs.records.Symbol as tu-def
 use Rattle.replay.proofs.records.Symbol.{name as #replay·records}
 use Rattle.replay.proofs.records.Met as tu-thm

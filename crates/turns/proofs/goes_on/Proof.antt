@@ -1,5 +1,4 @@
-use borrow.Author.Tests.{lt-ltb, le-ltb, not-true, not-false}
-use borrow.Author.Needs.{needs}
+use borrow.Author.Tests.{lt-ltb, le-ltb}
 use Rattle.turns.specs.Contracts.{goesOn}
 use Rattle.turns.proofs.goes_on.Statement.{statement}
 use Rattle.turns.proofs.goes_on.Tie as tie

@@ -1,5 +1,5 @@
 use Rattle.turns.specs.Contracts.{placeAfter}
-use mathlib.Core.Path.{refl, sym, ap, _∙_}
+use mathlib.Core.Path.{ap, _∙_}
 use borrow.Author.Needs.{needs}
 use Rattle.turns.proofs.put_malformed.Statement.{statement}
 use Rattle.turns.proofs.put_malformed.Tie as tie

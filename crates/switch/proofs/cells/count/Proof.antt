@@ -1,9 +1,9 @@
--- The loop's invariant: n counts the marks of the first i slots.
-use mathlib.Core.Path.{_≡_, refl, sym, _∙_}
+-- The loop's invariant: the sum has 65,536 for each mark that counts among the first i slots, and less than 65,536 besides.
+use mathlib.Core.Path.{_≡_, sym, _∙_}
 use mathlib.Core.Bool.{Bool, true, false, cond}
 use mathlib.Core.List.{List}
 use mathlib.Core.Logic.{⊎-elim}
-use Prim.Native.Nat.{ℕ, _+_, _-_, _≤_}
+use Prim.Native.Nat.{ℕ, _+_, _-_, _*_, _/_, _≤_, _<_}
 use native.Mathlib.Numerals.{add-one}
 use native.Mathlib.Omega.{arith}
 use borrow.Author.Needs.{needs}
@@ -14,36 +14,48 @@ use Rattle.switch.specs.DirtySet.{countedTo, countedMarks}
 use Rattle.switch.proofs.cells.count.Statement.{statement}
 use Rattle.switch.proofs.cells.count.Tie as tie
 
+-- k marks count among the first i slots, and the sum says so
+abbrev Sums : ℕ → ℕ → ℕ → Type 0
+Sums k i sum = (65536 * k ≤ sum) × (sum ≤ 65536 * k + 48 * i) × (k ≤ i)
+
 abbrev Inv-loop : tie.InvT-loop
-Inv-loop cells c n₀ i₀ n i = (n ≡ countedTo cells c i) × (n ≤ i) × (i ≤ 48)
+Inv-loop cells c sum₀ i₀ sum i = (i ≤ 48) × Sums (countedTo cells c i) i sum
 
 abbrev μ-loop : tie.MeasureT-loop
-μ-loop cells c n₀ i₀ n i = 48 - i
+μ-loop cells c sum₀ i₀ sum i = 48 - i
 
 -- one slot more
-more : (w : List ℕ) (c i n s : ℕ) (t : Bool) → s ≡ slotStamp w i → t ≡ isAbove s c → n ≡ countedTo w c i → cond t (n + 1) n ≡ countedTo w c (i + 1)
+counted-more : (w : List ℕ) (c i s : ℕ) (t : Bool) → s ≡ slotStamp w i → t ≡ isAbove s c → countedTo w c (i + 1) ≡ cond t (countedTo w c i + 1) (countedTo w c i)
 unfolding countedTo countsAbove
-more w c i n s t q e h = rw (add-one i, e, q, h)
+counted-more w c i s t q e = rw (add-one i, e, q)
+
+sums-more : (k k' i sum : ℕ) (t : Bool) → i < 48 → k' ≡ cond t (k + 1) k → Sums k i sum → Sums k' (i + 1) (cond t (sum + (65536 + i)) sum)
+sums-more k k' i sum true b e h = (omega arith, omega arith, omega arith)
+sums-more k k' i sum false b e h = (omega arith, omega arith, omega arith)
+
+-- what the sum over all slots says
+told : (k sum : ℕ) → Sums k 48 sum → sum / 65536 ≡ k
+told k sum h = omega arith
 
 loop-holds : tie.Need-loop-holds Inv-loop μ-loop
 unfolding countedTo
-loop-holds c = (refl, omega arith, omega arith)
+loop-holds c = (omega arith, (omega arith, omega arith, omega arith))
 
 loop-again : tie.Need-loop-again Inv-loop μ-loop
 loop-again c =
-    let h = c .before .before .before .before .loop .inv .0 in
+    let turn = c .before .before .before .before .loop in
     let q = c .before .before .stamp-at .ensures in
     let e = c .before .above .ensures in
     ⊎-elim
-    (λ w. (w .1 ∙ more _ _ (c .before .before .before .before .loop .i) _ _ true q (sym (w .0 .taken) ∙ e) h, omega arith, omega arith))
-    (λ w. (w .1 ∙ more _ _ (c .before .before .before .before .loop .i) _ _ false q (sym (w .0 .left) ∙ e) h, omega arith, omega arith))
+    (λ w. (omega arith, rw (w .1) (sums-more _ _ (turn .i) (turn .sum) true (omega arith) (counted-more _ _ _ _ true q (sym (w .0 .taken) ∙ e)) (turn .inv .1))))
+    (λ w. (omega arith, rw (w .1) (sums-more _ _ (turn .i) (turn .sum) false (omega arith) (counted-more _ _ _ _ false q (sym (w .0 .left) ∙ e)) (turn .inv .1))))
     (c .if1 .came)
 
 returns : tie.Need-returns Inv-loop μ-loop
 unfolding countedMarks
 returns c =
     let e : c .before .loop .i ≡ 48 = omega arith in
-    simp (← c .before .before .committed .ensures) (rw e at (c .before .loop .inv .0))
+    simp (← c .before .before .committed .ensures) (told _ _ (rw e at (c .before .loop .inv .1)))
 
 pub count-spec : {M : Type 1} → statement M
 count-spec =
@@ -55,6 +67,8 @@ count-spec =
     loop-holds
     (λ c κs. search needs)
     (λ c κs. search needs)
+    (λ c. search needs)
+    (λ c. search needs)
     (λ c. search needs)
     (λ c. search needs)
     (λ c. search needs)
