@@ -48,24 +48,26 @@ impl Freshness {
 
 /// A store of replicas behind a switch, with the memory that the library works in.
 #[derive(Clone)]
-pub struct Model {
-    session: Session,
+pub struct Model(Box<Lent>);
+
+/// All that the library is lent. The switch, which some steps copy whole, begins
+/// with a cache line: copies that cross pages would cost a tenth of the average step.
+#[derive(Clone)]
+#[repr(C, align(64))]
+struct Lent {
     switch: [u32; SWITCH],
-    store: Box<[u32; STORE]>,
     opens: [u32; OPENS],
+    session: Session,
     packets: [Packet; PLACES],
+    store: [u32; STORE],
 }
 
 impl Model {
     /// An empty store of `n` replicas, or refusal 2.
     pub fn start(n: u8) -> Result<Model, u8> {
-        let mut model = Model {
-            session: Session::default(),
-            switch: [0; SWITCH],
-            store: vec![0; STORE].try_into().expect("as many as that"),
-            opens: [0; OPENS],
-            packets: [Packet::default(); PLACES],
-        };
+        // Every field is made of numbers, which zeros are.
+        let lent = unsafe { Box::<Lent>::new_zeroed().assume_init() };
+        let mut model = Model(lent);
         model.restart(n).map(|()| model)
     }
 
@@ -75,14 +77,14 @@ impl Model {
         // The pointers are to the fields, which have the sizes that the header names.
         unsafe {
             raw::woldladle_start(
-                &mut self.session,
-                self.switch.as_mut_ptr(),
-                self.store.as_mut_ptr(),
-                self.opens.as_mut_ptr(),
+                &mut self.0.session,
+                self.0.switch.as_mut_ptr(),
+                self.0.store.as_mut_ptr(),
+                self.0.opens.as_mut_ptr(),
                 n,
             )
         };
-        match self.session.refusal {
+        match self.0.session.refusal {
             0 => Ok(()),
             refusal => Err(refusal),
         }
@@ -101,22 +103,22 @@ impl Model {
         // As in `restart`; `record` is lent for the call only.
         unsafe {
             raw::woldladle_step(
-                &mut self.session,
-                self.switch.as_mut_ptr(),
-                self.store.as_mut_ptr(),
-                self.opens.as_mut_ptr(),
-                self.packets.as_mut_ptr(),
+                &mut self.0.session,
+                self.0.switch.as_mut_ptr(),
+                self.0.store.as_mut_ptr(),
+                self.0.opens.as_mut_ptr(),
+                self.0.packets.as_mut_ptr(),
                 places,
                 record.as_ptr(),
                 record.len(),
             )
         };
-        match (self.session.refusal, self.session.operation) {
+        match (self.0.session.refusal, self.0.session.operation) {
             (0, 0) => Answer::Done,
             (0, operation) => Answer::Finished {
                 operation,
-                value: self.session.value,
-                freshness: Freshness::from_number(self.session.freshness),
+                value: self.0.session.value,
+                freshness: Freshness::from_number(self.0.session.freshness),
             },
             (refusal, _) => Answer::Refused(refusal),
         }
@@ -125,20 +127,20 @@ impl Model {
     /// How many packets wait.
     #[inline]
     pub fn waiting(&self) -> usize {
-        self.session.waiting
+        self.0.session.waiting
     }
 
     /// How many marks count.
     #[inline]
     pub fn marks(&self) -> usize {
-        self.session.marks as usize
+        self.0.session.marks as usize
     }
 
     /// The line of the last step, as record `number`: how many bytes of `out`
     /// it takes, 0 where that is too short.
     #[inline]
     pub fn line(&self, number: u32, out: &mut [u8]) -> usize {
-        let s = &self.session;
+        let s = &self.0.session;
         let (to, room) = (out.as_mut_ptr(), out.len());
         unsafe {
             raw::woldladle_line(
@@ -158,26 +160,31 @@ impl Model {
     /// The value of an object at a replica, 0 where there is none.
     #[inline]
     pub fn value(&self, replica: u8, object: u32) -> u32 {
-        unsafe { raw::woldladle_value(self.store.as_ptr(), replica, object) }
+        unsafe { raw::woldladle_value(self.0.store.as_ptr(), replica, object) }
     }
 
     /// Its stamp: the switch number times 65,536, and the counter.
     #[inline]
     pub fn stamp(&self, replica: u8, object: u32) -> u32 {
-        unsafe { raw::woldladle_stamp(self.store.as_ptr(), replica, object) }
+        unsafe { raw::woldladle_stamp(self.0.store.as_ptr(), replica, object) }
     }
 
     /// All that the next step begins with, as bytes: for tests that a refusal
     /// changes nothing.
     pub fn bytes(&self) -> Vec<u8> {
-        let numbers = self.switch.iter().chain(&*self.store).chain(&self.opens);
-        let packets = self.packets.iter().flat_map(|p| &p.own);
+        let numbers = self
+            .0
+            .switch
+            .iter()
+            .chain(&self.0.store)
+            .chain(&self.0.opens);
+        let packets = self.0.packets.iter().flat_map(|p| &p.own);
         let mut bytes: Vec<u8> = numbers
             .chain(packets)
-            .chain([&self.session.marks])
+            .chain([&self.0.session.marks])
             .flat_map(|n| n.to_le_bytes())
             .collect();
-        bytes.extend(self.session.waiting.to_le_bytes());
+        bytes.extend(self.0.session.waiting.to_le_bytes());
         bytes
     }
 }
