@@ -1,5 +1,6 @@
 // Document 01, 'What delivery does': a function for each rule.
 ghost use mathlib.Core.Path.{_≡_};
+ghost use Rattle.store.specs.{stampAt};
 ghost use Rattle.protocol.specs.Delivery.{stamping, unstampedWrite, switchRead, answering, stampedWrite, directRead, freshness, normalRead, completion, reply};
 use limits::Freshness;
 use limits::Number;
@@ -157,6 +158,13 @@ fn compare(stamp: Stamp, carried: Stamp) -> Freshness
     NEW
 }
 
+// The stamp of the value that replica r answers with: that of the object in its own table.
+fn value_stamp(store: &[u32; store::CELLS], r: Replica, x: Object) -> Stamp
+    ensures { λ t. ⌜ t ≡ stampAt (now (store .entry)) r x ⌝ }
+{
+    store::read_stamp(store, r, x)
+}
+
 pub fn normal_read(
     store: &[u32; store::CELLS],
     at: usize,
@@ -171,7 +179,7 @@ pub fn normal_read(
         return decisions::drop_packet(at);
     }
     let v = store::read_value(store, r, x);
-    let f = compare(store::read_stamp(store, r, x), carried);
+    let f = compare(value_stamp(store, r, x), carried);
     decisions::pass_on(at, Message::Reply(o, v, carried, f))
 }
 

@@ -10,7 +10,7 @@ returns c = simp (← c .before .before .is-live .ensures, not-true (c .before .
 
 returns-2 : tie.Need-returns-2
 unfolding normalRead
-returns-2 c = simp (← c .before .before .before .before .before .is-live .ensures, not-false (c .before .before .before .before .before .is-live .result) (c .before .before .before .before .if1 .left), ← c .before .before .before .read-value .ensures, ← c .before .before .read-stamp .ensures, ← c .before .compare .ensures, c .pass-on .ensures)
+returns-2 c = simp (← c .before .before .before .before .before .is-live .ensures, not-false (c .before .before .before .before .before .is-live .result) (c .before .before .before .before .if1 .left), ← c .before .before .before .read-value .ensures, ← c .before .before .value-stamp .ensures, ← c .before .compare .ensures, c .pass-on .ensures)
 
 pub normal-read-spec : {M : Type 1} → statement M
 normal-read-spec =
