@@ -79,8 +79,7 @@ uint32_t woldladle_stamp(const uint32_t *store, uint8_t replica, uint32_t object
  * to the first that does not fit, and every byte after them is as it was. It takes 70 KB of stack. */
 size_t woldladle_run(const uint8_t *input, size_t length, uint8_t *out, size_t room);
 
-/* All that a session is lent, and the calls over it. The switch, which some steps copy whole, begins with a cache line: copies that cross pages would cost a tenth of the
- * average step. */
+/* All that a session is lent, and the calls over it. The switch begins with a cache line: where it lay across the end of a page, the average step took a tenth longer. */
 struct __attribute__((aligned(64))) woldladle_model {
     uint32_t switch_numbers[WOLDLADLE_SWITCH];
     uint32_t opens[WOLDLADLE_OPENS];

@@ -50,8 +50,8 @@ impl Freshness {
 #[derive(Clone)]
 pub struct Model(Box<Lent>);
 
-/// All that the library is lent. The switch, which some steps copy whole, begins
-/// with a cache line: copies that cross pages would cost a tenth of the average step.
+/// All that the library is lent. The switch begins with a cache line: where it lay
+/// across the end of a page, the average step took a tenth longer.
 #[derive(Clone)]
 #[repr(C, align(64))]
 struct Lent {
