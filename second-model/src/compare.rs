@@ -1,8 +1,8 @@
 //! Compares another run program with this model on random files, and looks for
 //! an order on small runs.
 
-use crate::generate::{generate, length, Random, KINDS};
-use crate::model::{Age, Refusal};
+use crate::generate::{generate, length, Random, KINDS, SMALL};
+use crate::model::{Age, Finished, Refusal, Way};
 use crate::order::{find_order, history};
 use crate::records::pieces;
 use crate::run::{output, walk, Outcome};
@@ -32,9 +32,43 @@ pub struct Tally {
     pub finished: usize,
     pub old: usize,
     pub new: usize,
-    pub refusals: [usize; 16],
+    pub contexts: Contexts,
+    pub refusals: [usize; 17],
     pub orders: usize,
     pub ordered_operations: usize,
+}
+
+/// How often a read of a context finished, by the way of its reply: answered
+/// directly, by the tail at once, or by the tail after a rejected direct read.
+#[derive(Clone, Copy, Debug, Default)]
+pub struct Contexts {
+    pub direct: usize,
+    pub tail: usize,
+    pub rejected: usize,
+}
+
+impl Contexts {
+    /// Counts a finished operation if it is a read of a context.
+    fn count(&mut self, finished: Finished) {
+        if finished.values.count() < 2 {
+            return;
+        }
+        match finished.way {
+            Way::Direct => self.direct += 1,
+            Way::Tail => self.tail += 1,
+            Way::SentOn => self.rejected += 1,
+            Way::Write => {}
+        }
+    }
+
+    /// Each way with its name and number.
+    pub fn rows(&self) -> [(&'static str, usize); 3] {
+        [
+            ("context, direct", self.direct),
+            ("context, tail", self.tail),
+            ("context, rejected", self.rejected),
+        ]
+    }
 }
 
 impl Tally {
@@ -60,6 +94,7 @@ impl Tally {
             self.finished += 1;
             self.old += usize::from(finished.age == Age::Old);
             self.new += usize::from(finished.age == Age::New);
+            self.contexts.count(finished);
         }
     }
 
@@ -72,6 +107,9 @@ impl Tally {
         self.finished += other.finished;
         self.old += other.old;
         self.new += other.new;
+        self.contexts.direct += other.contexts.direct;
+        self.contexts.tail += other.contexts.tail;
+        self.contexts.rejected += other.contexts.rejected;
         self.orders += other.orders;
         self.ordered_operations += other.ordered_operations;
         for (ours, theirs) in self.refusals.iter_mut().zip(other.refusals) {
@@ -81,14 +119,17 @@ impl Tally {
 
     /// The last line and the table of answers.
     pub fn report(&self) -> String {
-        let mut text = String::from("answer       times\n");
+        let mut text = format!("{:<17} {:>13}\n", "answer", "times");
         let mut row = |name: &str, times| {
-            text += &format!("{name:<9} {:>13}\n", with_commas(times));
+            text += &format!("{name:<17} {:>13}\n", with_commas(times));
         };
         row("ok", self.accepted);
         row("finished", self.finished);
         row("old", self.old);
         row("new", self.new);
+        for (name, times) in self.contexts.rows() {
+            row(name, times);
+        }
         for (number, &times) in self.refusals.iter().enumerate().skip(1) {
             row(&format!("no {number}"), times);
         }
@@ -119,13 +160,13 @@ pub fn with_commas(number: usize) -> String {
 }
 
 /// The file with this index of a comparison: its kind and bytes. Those from
-/// `files` on are the small runs.
+/// `files` on are the small runs, every other one with reads of contexts.
 pub fn file(task: &Task, index: usize) -> (&'static str, Vec<u8>) {
     let mut random = Random::new(task.seed.wrapping_add((index as u64) << 32));
     random.draw();
     let kind = match index < task.files {
         true => KINDS[index % KINDS.len()].0,
-        false => "small",
+        false => SMALL[(index - task.files) % SMALL.len()],
     };
     let length = match index < task.files {
         true => length(kind, &mut random),
@@ -248,7 +289,7 @@ pub fn compare_one(
 /// The refusals that a file can bring about: all but 4 and 15.
 pub fn reachable() -> impl Iterator<Item = usize> {
     let far = [Refusal::NumbersUsedUp, Refusal::BufferTooShort];
-    (1..=15).filter(move |number| far.iter().all(|r| usize::from(r.number()) != *number))
+    (1..=16).filter(move |number| far.iter().all(|r| usize::from(r.number()) != *number))
 }
 
 #[cfg(test)]
@@ -291,6 +332,29 @@ mod tests {
     #[test]
     fn four_and_fifteen_are_beyond_a_file() {
         let all: Vec<usize> = reachable().collect();
-        assert_eq!(all, [1, 2, 3, 5, 6, 7, 8, 9, 10, 11, 12, 13, 14]);
+        assert_eq!(all, [1, 2, 3, 5, 6, 7, 8, 9, 10, 11, 12, 13, 14, 16]);
+    }
+
+    /// Reads of two objects: one by the tail, one directly, one rejected because
+    /// of a write that came between; and one refused.
+    #[test]
+    fn contexts_are_counted_by_their_way() {
+        let input = words::file(
+            "start 2; read 5 6; 3 * deliver 0; \
+             write 5 9; 2 * deliver 0; advance 2; 2 * deliver 0; read 5 6; 3 * deliver 0; \
+             read 5 6; deliver 0; write 5 8; 2 * deliver 1; 3 * deliver 0; read 5 5",
+        );
+        let mut tally = Tally::default();
+        tally.count(&input);
+        let mut twice = tally.clone();
+        twice.add(&tally);
+        let times = |tally: &Tally| tally.contexts.rows().map(|(_, times)| times);
+        assert_eq!((times(&tally), tally.refusals[16]), ([1, 1, 1], 1));
+        assert_eq!((times(&twice), twice.refusals[16]), ([2, 2, 2], 2));
+        assert_eq!((tally.finished, tally.old, tally.new), (4, 0, 0));
+        let report = tally.report();
+        for line in ["context, rejected             1", "no 16                         1"] {
+            assert!(report.contains(line), "{report}");
+        }
     }
 }

@@ -6,6 +6,8 @@
 //! A paragraph `let name: steps` gives some steps a name, for use as `{name}`
 //! further down.
 
+mod context_refusals;
+mod contexts;
 mod deliveries;
 mod ends;
 mod marks;
@@ -20,13 +22,15 @@ use std::io;
 use std::path::Path;
 
 /// The tables, in the order in which the examples are listed.
-const TABLES: [&str; 6] = [
+const TABLES: [&str; 8] = [
     ends::TABLE,
     refusals::TABLE,
     marks::TABLE,
     deliveries::TABLE,
     removals::TABLE,
     rounds::TABLE,
+    context_refusals::TABLE,
+    contexts::TABLE,
 ];
 
 /// A record file with a name, and the last line that it must print.
@@ -141,7 +145,7 @@ mod tests {
         }
         let mut seen: Vec<u8> = seen.into_iter().collect();
         seen.sort_unstable();
-        assert_eq!(seen, [1, 2, 3, 5, 6, 7, 8, 9, 10, 11, 12, 13, 14]);
+        assert_eq!(seen, [1, 2, 3, 5, 6, 7, 8, 9, 10, 11, 12, 13, 14, 16]);
     }
 
     #[test]

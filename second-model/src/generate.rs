@@ -49,8 +49,9 @@ impl Random {
     }
 }
 
-/// The kinds of files, each with what it is about.
-pub const KINDS: [(&str, &str); 17] = [
+/// The kinds of files, each with what it is about. A kind's place goes into its
+/// files' bytes, so a new one stands behind the others.
+pub const KINDS: [(&str, &str); 20] = [
     ("accepted", "mostly accepted steps of every tag"),
     ("dense", "reads and writes of few objects"),
     ("full-waiting", "nearly full waiting list"),
@@ -74,13 +75,29 @@ pub const KINDS: [(&str, &str); 17] = [
     ("random-steps", "well-formed records with random fields"),
     ("damaged", "a run with a fault in its bytes"),
     ("noise", "random bytes"),
+    (
+        "contexts",
+        "reads of several objects among reads and writes of few",
+    ),
+    (
+        "context-faults",
+        "reads of several objects that are refused or of a wrong length",
+    ),
+    (
+        "small-contexts",
+        "few operations, reads of two or three objects",
+    ),
 ];
 
-/// So many of the kinds, the first ones, have a mood.
+/// The kinds of small runs, for which an order is looked for.
+pub const SMALL: [&str; 2] = ["small", "small-contexts"];
+
+/// So many of the kinds, the first ones, have a mood, and are damaged for kind
+/// `damaged`.
 const MOODS: usize = 14;
 
 /// A file of a kind, from a seed, of at most this length (exactly this length
-/// except for kind `damaged`); none if there is no such kind.
+/// except for `damaged` and `context-faults`); none if there is no such kind.
 pub fn generate(kind: &str, seed: u64, length: usize) -> Option<Vec<u8>> {
     let place = KINDS.iter().position(|(name, _)| *name == kind)?;
     let mut random = Random::new(seed ^ (place as u64) << 56);
@@ -89,6 +106,7 @@ pub fn generate(kind: &str, seed: u64, length: usize) -> Option<Vec<u8>> {
         "noise" => noise(&mut random, length),
         "damaged" => damaged(&mut random, length),
         "random-steps" => random_steps(&mut random, length),
+        "context-faults" => context_faults(&mut random, length),
         _ => {
             let mood = mood(kind, &mut random, length);
             Author::new(mood, random).write(length)
@@ -102,10 +120,11 @@ pub fn length(kind: &str, random: &mut Random) -> usize {
     let short = random.within(8, 600);
     match (kind, random.below(100)) {
         (_, 0..2) => INPUT_LONGEST + 1,
-        ("small", _) => short,
+        ("small" | "small-contexts", _) => short,
         (_, 2..10) => INPUT_LONGEST,
         ("noise", _) => random.below(300),
         ("removals" | "pending-writes", 10..80) => random.within(100, 3000),
+        ("contexts" | "context-faults", 10..70) => random.within(100, 3000),
         (_, 10..50) => random.within(30_000, INPUT_LONGEST),
         (_, 50..75) => random.within(600, 30_000),
         _ => short,
@@ -197,6 +216,65 @@ fn damaged(random: &mut Random, length: usize) -> Vec<u8> {
     bytes
 }
 
+/// A run with reads of contexts, many of them refused. In most runs a record of
+/// tag 11 with a wrong length is put in somewhere, or the bytes are damaged in
+/// another way, most often in a record of tag 11.
+fn context_faults(random: &mut Random, length: usize) -> Vec<u8> {
+    let mood = mood("context-faults", random, length);
+    let seed = random.draw();
+    let mut bytes = Author::new(mood, Random::new(seed)).write(length);
+    if bytes.is_empty() {
+        return bytes;
+    }
+    let mut places = Vec::new();
+    let mut contexts = Vec::new();
+    let mut place = 0;
+    for piece in pieces(&bytes) {
+        places.push(place);
+        if piece[0] == 11 {
+            contexts.push(place);
+        }
+        place += piece.len();
+    }
+    places.push(place);
+    let anywhere = random.one_of(&places);
+    let near = match contexts.as_slice() {
+        [] => anywhere,
+        contexts => random.one_of(contexts),
+    };
+    match random.below(10) {
+        0..5 => insert(&mut bytes, anywhere, &wrong_context(random)),
+        5 => spoil_length(&mut bytes, near, random),
+        6 => bytes.truncate(near + random.below(20)),
+        7 => {
+            if let Some(byte) = bytes.get_mut(near + random.below(20)) {
+                *byte ^= 1 << random.below(8);
+            }
+        }
+        _ => {}
+    }
+    bytes.truncate(length);
+    bytes
+}
+
+/// A record of tag 11 with a wrong length, at times without all its content.
+fn wrong_context(random: &mut Random) -> Vec<u8> {
+    let near = random.one_of(&[0, 1, 2, 3, 5, 7, 9, 11, 13, 15, 17, 18, 19, 20]);
+    let far = random.one_of(&[24, 32, 255, 256, 260, 272, 1024, 1040, 4096, 65_535]);
+    let length = random.one_of(&[near, near, near, far]);
+    let [high, low] = (length as u16).to_be_bytes();
+    let mut bytes = vec![11, high, low];
+    let content = match random.below(4) {
+        0 => random.below(length + 1),
+        _ => length,
+    };
+    for place in 0..content.min(300) {
+        let byte = random.below(256) as u8;
+        bytes.push(if place % 2 == 0 { byte % 4 } else { byte });
+    }
+    bytes
+}
+
 /// Puts bytes into a file at a place.
 fn insert(bytes: &mut Vec<u8>, place: usize, more: &[u8]) {
     bytes.splice(place..place, more.iter().copied());
@@ -253,10 +331,25 @@ mod tests {
         }
     }
 
+    /// As above; but where seven bytes are left a read of two objects may fit.
+    #[test]
+    fn files_with_contexts_end_whole_too() {
+        for kind in ["contexts", "small-contexts"] {
+            for length in (0..80).chain([65_535, 65_536, 65_537]) {
+                let file = generate(kind, length as u64, length).unwrap();
+                assert_eq!(file.len(), length, "{kind}");
+                let sound = |p: &&[u8]| crate::records::read(p).is_some();
+                let whole = pieces(&file).iter().all(sound);
+                let small = matches!(length, 1..=3 | 5..=7);
+                assert!(length == 11 || whole != small, "{kind} {length}");
+            }
+        }
+    }
+
     #[test]
     fn runs_that_look_at_the_state_are_mostly_accepted() {
         let kinds = ["accepted", "dense", "colliding", "replacements", "small"];
-        for kind in kinds.into_iter().chain(["pending-writes"]) {
+        for kind in kinds.into_iter().chain(["pending-writes", "contexts"]) {
             let file = generate(kind, 3, 30_000).unwrap();
             let (mut all, mut accepted) = (0, 0);
             walk(&file, |_, outcome| {
@@ -272,13 +365,28 @@ mod tests {
 
     #[test]
     fn small_files_begin_few_operations() {
-        for seed in 0..50 {
-            let file = generate("small", seed, 600).unwrap();
+        for (kind, seed) in SMALL.into_iter().flat_map(|k| (0..50).map(move |s| (k, s))) {
+            let file = generate(kind, seed, 600).unwrap();
             let begins = pieces(&file)
                 .iter()
-                .filter(|p| p[0] == 1 || p[0] == 2)
+                .filter(|p| matches!(p[0], 1 | 2 | 11))
                 .count();
-            assert!(begins <= 8, "{begins}");
+            assert!(begins <= 8, "{kind}: {begins}");
         }
+    }
+
+    /// Checksums of files of the kinds that stand before the contexts: their
+    /// bytes stay as they are.
+    #[test]
+    fn earlier_kinds_keep_their_bytes() {
+        let mut sum: u64 = 0;
+        for (kind, _) in &KINDS[..17] {
+            for (seed, length) in [(1, 900), (2, 5000)] {
+                for byte in generate(kind, seed, length).unwrap() {
+                    sum = sum.wrapping_mul(0x100_0000_01b3) ^ u64::from(byte);
+                }
+            }
+        }
+        assert_eq!(sum, 0);
     }
 }

@@ -1,12 +1,14 @@
 //! The machine: a switch, a chain, the waiting packets and the open
 //! operations, and what each step does to them (document 01; document 02,
-//! Req 01).
+//! Req 01 and Req 02).
 
 mod chain;
+mod few;
 mod switch;
 
-use chain::Chain;
+use chain::{Chain, Replica};
 pub use chain::{Held, Write};
+pub use few::{Few, MOST};
 use switch::Switch;
 
 /// Objects are 0 to 1,023.
@@ -35,7 +37,14 @@ impl Stamp {
     }
 }
 
-/// A step after the start: tags 1 to 10 of "Steps and their records".
+/// The objects of a read, in the order given.
+pub type Objects = Few<u16>;
+/// Their values, in the same order; one value for a write.
+pub type Values = Few<u32>;
+
+/// A step after the start: tags 1 to 10 of "Steps and their records", and tag
+/// 11, which begins a read of a context. A step handed over may have any number
+/// of objects there.
 #[derive(Clone, Copy, Debug, PartialEq, Eq)]
 pub enum Step {
     Read { object: u16 },
@@ -48,6 +57,7 @@ pub enum Step {
     Tell { replica: u8 },
     Remove { replica: u8 },
     GiveUp { operation: u16 },
+    Context { objects: Objects },
 }
 
 /// The rows of "Turned down", by their numbers.
@@ -69,6 +79,7 @@ pub enum Refusal {
     NotOpen = 13,
     InputTooLong = 14,
     BufferTooShort = 15,
+    NamedTwice = 16,
 }
 
 impl Refusal {
@@ -108,21 +119,35 @@ impl Age {
     }
 }
 
-/// The operation that a deliver has just finished, with its value and age.
+/// How a reply came about: by a write; by a direct read; by a read that the
+/// switch sent to the tail; by a direct read that a replica sent on to the
+/// tail. It is not printed.
+#[derive(Clone, Copy, Debug, PartialEq, Eq)]
+pub enum Way {
+    Write,
+    Direct,
+    Tail,
+    SentOn,
+}
+
+/// The operation that a deliver has just finished, with its value, or its
+/// values in the order given, the age and the way of its reply.
 #[derive(Clone, Copy, Debug, PartialEq, Eq)]
 pub struct Finished {
     pub operation: u16,
-    pub value: u32,
+    pub values: Values,
     pub age: Age,
+    pub way: Way,
 }
 
 /// What a step gives back: accepted, perhaps with an operation just finished,
 /// or turned down with all unchanged.
 pub type Answer = Result<Option<Finished>, Refusal>;
 
-/// A waiting packet, one case for each item of "What delivery does". What a
-/// normal read and a reply carry is the stamp of the mark that the switch found
-/// when it sent the read to the tail.
+/// A waiting packet, one case for each item of "What delivery does". A read of
+/// one object and a read of a context are the same packets. What a normal read
+/// and a reply carry is the stamp of the mark that the switch found when it sent
+/// a read of one object to the tail; a read of a context carries none.
 #[derive(Clone, Copy, Debug, PartialEq, Eq)]
 pub enum Packet {
     UnstampedWrite {
@@ -132,7 +157,7 @@ pub enum Packet {
     },
     Read {
         operation: u16,
-        object: u16,
+        objects: Objects,
     },
     StampedWrite {
         to: u8,
@@ -141,15 +166,16 @@ pub enum Packet {
     DirectRead {
         to: u8,
         operation: u16,
-        object: u16,
+        objects: Objects,
         switch: u16,
         committed: Stamp,
     },
     NormalRead {
         to: u8,
         operation: u16,
-        object: u16,
+        objects: Objects,
         carried: Option<Stamp>,
+        way: Way,
     },
     Completion {
         object: u16,
@@ -157,9 +183,10 @@ pub enum Packet {
     },
     Reply {
         operation: u16,
-        value: u32,
+        values: Values,
         carried: Option<Stamp>,
         age: Age,
+        way: Way,
     },
 }
 
@@ -198,14 +225,37 @@ impl OpenOperations {
     }
 }
 
-/// The reply of a replica that holds this of the object: it carries what its
-/// read carried, and the value's age is decided here.
-fn answered(operation: u16, held: Held, carried: Option<Stamp>) -> Packet {
+/// Is an object named twice?
+fn named_twice(objects: &[u16]) -> bool {
+    let mut rest = objects;
+    while let [first, others @ ..] = rest {
+        if others.contains(first) {
+            return true;
+        }
+        rest = others;
+    }
+    false
+}
+
+/// What a replica holds of each object, in the order given.
+fn held_of(replica: &Replica, objects: Objects) -> Few<Held> {
+    objects.each().map(|object| replica.held(object)).collect()
+}
+
+/// The reply of a replica that holds this of the objects: it carries what its
+/// read carried, and the value's age is decided here. Only a read of one object
+/// carries a stamp.
+fn answered(operation: u16, held: Few<Held>, carried: Option<Stamp>, way: Way) -> Packet {
+    let age = match held.kept() {
+        [only] => Age::of(only.stamp, carried),
+        _ => Age::None,
+    };
     Packet::Reply {
         operation,
-        value: held.value,
+        values: held.each().map(|held| held.value).collect(),
         carried,
-        age: Age::of(held.stamp, carried),
+        age,
+        way,
     }
 }
 
@@ -236,8 +286,8 @@ impl Model {
     /// Makes one step. A refused step leaves all unchanged.
     pub fn step(&mut self, step: Step) -> Answer {
         match step {
-            Step::Read { object } => self.begin(object, None),
-            Step::Write { object, value } => self.begin(object, Some(value)),
+            Step::Read { object } => self.begin_read(Few::one(object)),
+            Step::Write { object, value } => self.begin_write(object, value),
             Step::Deliver { position, choice } => self.deliver(position, choice),
             Step::Lose { position } => self.lose(position),
             Step::Repeat { position } => self.repeat(position),
@@ -246,13 +296,44 @@ impl Model {
             Step::Tell { replica } => self.tell(replica),
             Step::Remove { replica } => self.remove(replica),
             Step::GiveUp { operation } => self.give_up(operation),
+            Step::Context { objects } => self.begin_context(objects),
         }
     }
 
-    /// Tags 1 and 2; a write has a value. Order 3, 4, 5, 6.
-    fn begin(&mut self, object: u16, value: Option<u32>) -> Answer {
-        if object >= OBJECTS {
+    /// Tag 1, and tag 11 with a number of objects that it takes.
+    fn begin_read(&mut self, objects: Objects) -> Answer {
+        self.begin(objects.kept(), |operation| Packet::Read {
+            operation,
+            objects,
+        })
+    }
+
+    /// Tag 2.
+    fn begin_write(&mut self, object: u16, value: u32) -> Answer {
+        self.begin(&[object], |operation| Packet::UnstampedWrite {
+            operation,
+            object,
+            value,
+        })
+    }
+
+    /// Tag 11: "another number of objects in a step to be run" is 1, first of
+    /// all.
+    fn begin_context(&mut self, objects: Objects) -> Answer {
+        match objects.is_context() {
+            true => self.begin_read(objects),
+            false => Err(Refusal::BadRecord),
+        }
+    }
+
+    /// An operation on these objects, with its first packet. Order 3, 16, 4, 5,
+    /// 6; one object alone is not named twice.
+    fn begin(&mut self, objects: &[u16], packet: impl FnOnce(u16) -> Packet) -> Answer {
+        if objects.iter().any(|&object| object >= OBJECTS) {
             return Err(Refusal::BadObject);
+        }
+        if named_twice(objects) {
+            return Err(Refusal::NamedTwice);
         }
         let operation = self.begun.checked_add(1).ok_or(Refusal::NumbersUsedUp)?;
         if self.open.count >= FULL {
@@ -263,14 +344,7 @@ impl Model {
         }
         self.begun = operation;
         self.open.insert(operation);
-        self.waiting.push(match value {
-            Some(value) => Packet::UnstampedWrite {
-                operation,
-                object,
-                value,
-            },
-            None => Packet::Read { operation, object },
-        });
+        self.waiting.push(packet(operation));
         Ok(None)
     }
 
@@ -285,10 +359,19 @@ impl Model {
         match packet {
             Packet::Reply {
                 operation,
-                value,
+                values,
                 age,
+                way,
                 ..
-            } => return Ok(self.finish(operation, value, age)),
+            } => {
+                let finished = Finished {
+                    operation,
+                    values,
+                    age,
+                    way,
+                };
+                return Ok(self.finish(finished));
+            }
             Packet::Completion { object, stamp } => self.switch.complete(object, stamp),
             Packet::StampedWrite { to, write } => self.write_arrives(to, write),
             other => {
@@ -317,30 +400,32 @@ impl Model {
                 object,
                 value,
             } => self.stamped(operation, object, value),
-            Packet::Read { operation, object } => Some(self.directed(operation, object, choice)),
+            Packet::Read { operation, objects } => Some(self.directed(operation, objects, choice)),
             Packet::DirectRead {
                 to,
                 operation,
-                object,
+                objects,
                 switch,
                 committed,
             } => {
                 let replica = self.chain.replica(to)?;
-                let held = replica.held(object);
-                if replica.permits == switch && held.stamp <= committed {
-                    Some(answered(operation, held, None))
+                let held = held_of(replica, objects);
+                let above = held.each().any(|held| held.stamp > committed);
+                if replica.permits == switch && !above {
+                    Some(answered(operation, held, None, Way::Direct))
                 } else {
-                    Some(self.to_tail(operation, object, None))
+                    Some(self.to_tail(operation, objects, None, Way::SentOn))
                 }
             }
             Packet::NormalRead {
                 to,
                 operation,
-                object,
+                objects,
                 carried,
+                way,
             } => {
-                let held = self.chain.replica(to)?.held(object);
-                Some(answered(operation, held, carried))
+                let held = held_of(self.chain.replica(to)?, objects);
+                Some(answered(operation, held, carried, way))
             }
             _ => None,
         }
@@ -363,30 +448,42 @@ impl Model {
         })
     }
 
-    /// "Read, to the switch": direct to the replica at place choice mod live,
-    /// or normal to the tail, with the stamp of a counting mark if there is one.
-    fn directed(&self, operation: u16, object: u16, choice: u8) -> Packet {
-        let mark = self.switch.counting_mark(object);
-        if !self.switch.direct_reads || mark.is_some() {
-            return self.to_tail(operation, object, mark);
+    /// "Read, to the switch": direct to the replica at place choice mod live, if
+    /// direct reads are on and none of the objects has a counting mark, or
+    /// normal to the tail. One object alone has its mark's stamp carried.
+    fn directed(&self, operation: u16, objects: Objects, choice: u8) -> Packet {
+        let mut marks = objects.each().map(|o| self.switch.counting_mark(o));
+        if !self.switch.direct_reads || marks.any(|mark| mark.is_some()) {
+            let carried = match objects.kept() {
+                &[object] => self.switch.counting_mark(object),
+                _ => None,
+            };
+            return self.to_tail(operation, objects, carried, Way::Tail);
         }
         let live = self.chain.live();
         Packet::DirectRead {
             to: live[usize::from(choice) % live.len()].name,
             operation,
-            object,
+            objects,
             switch: self.switch.number,
             committed: self.switch.committed,
         }
     }
 
     /// A normal read to the replica that is the tail now.
-    fn to_tail(&self, operation: u16, object: u16, carried: Option<Stamp>) -> Packet {
+    fn to_tail(
+        &self,
+        operation: u16,
+        objects: Objects,
+        carried: Option<Stamp>,
+        way: Way,
+    ) -> Packet {
         Packet::NormalRead {
             to: self.chain.tail(),
             operation,
-            object,
+            objects,
             carried,
+            way,
         }
     }
 
@@ -403,9 +500,10 @@ impl Model {
         if self.chain.apply(place, write) {
             self.waiting.push(Packet::Reply {
                 operation: write.operation,
-                value: write.value,
+                values: Few::one(write.value),
                 carried: None,
                 age: Age::None,
+                way: Way::Write,
             });
             self.waiting.push(Packet::Completion {
                 object: write.object,
@@ -415,13 +513,9 @@ impl Model {
     }
 
     /// "Reply. Finishes the operation if it is open; otherwise ignored."
-    fn finish(&mut self, operation: u16, value: u32, age: Age) -> Option<Finished> {
-        let open = self.open.remove(operation);
-        open.then_some(Finished {
-            operation,
-            value,
-            age,
-        })
+    fn finish(&mut self, finished: Finished) -> Option<Finished> {
+        let open = self.open.remove(finished.operation);
+        open.then_some(finished)
     }
 
     /// Tag 4.
@@ -572,6 +666,14 @@ impl Model {
     /// The last operation number given, 0 if none.
     pub fn begun(&self) -> u16 {
         self.begun
+    }
+
+    /// Puts another packet in the place of the newest one, for a program that
+    /// is wrong on purpose. No step does this.
+    pub fn falsify_newest(&mut self, packet: Packet) {
+        if let Some(newest) = self.waiting.last_mut() {
+            *newest = packet;
+        }
     }
 }
 

@@ -1,24 +1,26 @@
 //! Looks for an order of the operations of a run (document 01, "The run that
-//! demand 3 speaks of") by trying all of them, after Wing and Gong.
+//! demand 3 speaks of"; document 02, Req 02) by trying all of them, after Wing
+//! and Gong.
 
-use crate::model::{Age, Step};
+use crate::model::{Age, Few, Objects, Step, Values};
 use crate::records::{Reader, Record};
 use std::collections::HashSet;
 
-/// How an operation finished: the record's number, and value and age as its
+/// How an operation finished: the record's number, and values and age as its
 /// line says.
 #[derive(Clone, Copy, Debug, PartialEq, Eq)]
 pub struct End {
     pub at: usize,
-    pub value: u32,
+    pub values: Values,
     pub age: Age,
 }
 
 /// An operation as the steps and their answers show it. `begun` is a record's
-/// number; `written` is a write's value and none for a read.
+/// number; `written` is a write's value and none for a read. Only a read of a
+/// context has more than one object.
 #[derive(Clone, Copy, Debug, PartialEq, Eq)]
 pub struct Operation {
-    pub object: u16,
+    pub objects: Objects,
     pub written: Option<u32>,
     pub begun: usize,
     pub finished: Option<End>,
@@ -34,18 +36,21 @@ pub fn history(input: &[u8], lines: &[u8]) -> Option<Vec<Operation>> {
         let finished = match fields[..] {
             [_, "no", _] => continue,
             [_, "ok", _, _, "-", "-", "-"] => None,
-            [_, "ok", _, _, operation, value, age] => {
+            [_, "ok", _, _, operation, values, age] => {
                 let operation: usize = operation.parse().ok()?;
-                Some((operation, end(number, value, age)?))
+                Some((operation, end(number, values, age)?))
             }
             _ => return None,
         };
         match record {
             Ok(Record::Step(Step::Read { object })) => {
-                operations.push(begun(number, object, None));
+                operations.push(begun(number, Few::one(object), None));
+            }
+            Ok(Record::Step(Step::Context { objects })) => {
+                operations.push(begun(number, objects, None));
             }
             Ok(Record::Step(Step::Write { object, value })) => {
-                operations.push(begun(number, object, Some(value)));
+                operations.push(begun(number, Few::one(object), Some(value)));
             }
             _ => {}
         }
@@ -58,19 +63,20 @@ pub fn history(input: &[u8], lines: &[u8]) -> Option<Vec<Operation>> {
 }
 
 /// The last two fields of a line that names an operation.
-fn end(at: usize, value: &str, age: &str) -> Option<End> {
+fn end(at: usize, values: &str, age: &str) -> Option<End> {
     let mut ages = [Age::None, Age::Old, Age::New].into_iter();
+    let values: Result<Values, _> = values.split(',').map(str::parse).collect();
     Some(End {
         at,
-        value: value.parse().ok()?,
+        values: values.ok()?,
         age: ages.find(|a| a.word() == age)?,
     })
 }
 
 /// "The k-th accepted begin starts operation k."
-fn begun(number: usize, object: u16, written: Option<u32>) -> Operation {
+fn begun(number: usize, objects: Objects, written: Option<u32>) -> Operation {
     Operation {
-        object,
+        objects,
         written,
         begun: number,
         finished: None,
@@ -78,8 +84,8 @@ fn begun(number: usize, object: u16, written: Option<u32>) -> Operation {
 }
 
 /// A search under way: which operations are in the order so far (a bit each),
-/// the order, the last write of it per operation's object, and the points that
-/// are known to lead nowhere.
+/// the order, and the points that are known to lead nowhere, each with the last
+/// write of every operation's objects.
 struct Search<'a> {
     operations: &'a [Operation],
     taken: u64,
@@ -90,17 +96,14 @@ struct Search<'a> {
 /// An order (operation numbers from 1) that holds every finished operation and
 /// perhaps unfinished ones, in which an operation that finished before another
 /// began is earlier, and each finished read gives the value of the last
-/// earlier write of its object, 0 if there is none.
+/// earlier write of its object, 0 if there is none; a read of a context gives
+/// that for each of its objects, all at its one place in the order.
 ///
 /// A read that finished `new` must have an earlier write of its object. One
 /// that finished `old` went round a write of its object: one that began before
 /// the read finished and is not earlier in the order.
 pub fn find_order(operations: &[Operation]) -> Option<Vec<usize>> {
     assert!(operations.len() <= 64, "the search is for small runs");
-    let honest = |o: &Operation| match (o.written, o.finished) {
-        (Some(written), Some(end)) => (end.value, end.age) == (written, Age::None),
-        _ => true,
-    };
     if !operations.iter().all(honest) {
         return None;
     }
@@ -111,6 +114,19 @@ pub fn find_order(operations: &[Operation]) -> Option<Vec<usize>> {
         dead: HashSet::new(),
     };
     search.go_on().then_some(search.order)
+}
+
+/// A write finishes with its own value, a read with a value for each object;
+/// only a read of one object has an age.
+fn honest(operation: &Operation) -> bool {
+    let Some(end) = operation.finished else {
+        return true;
+    };
+    match (operation.written, operation.objects.count()) {
+        (Some(written), _) => (end.values, end.age) == (Few::one(written), Age::None),
+        (None, 1) => end.values.count() == 1,
+        (None, count) => (end.values.count(), end.age) == (count, Age::None),
+    }
 }
 
 impl Search<'_> {
@@ -146,7 +162,7 @@ impl Search<'_> {
     }
 
     /// Not yet taken, nothing left that finished before it began, and if it is
-    /// a read, finished, with the value that stands now, and of fitting age.
+    /// a read, finished, with the values that stand now, and of fitting age.
     fn may_be_next(&self, index: usize) -> bool {
         let next = &self.operations[index];
         let before = |o: &Operation| o.finished.is_some_and(|end| end.at < next.begun);
@@ -156,20 +172,22 @@ impl Search<'_> {
         match (next.written, next.finished) {
             (Some(_), _) => true,
             (None, Some(end)) => {
-                end.value == self.standing(next.object) && self.age_fits(next.object, end)
+                let standing = next.objects.each().map(|o| self.standing(o));
+                standing.eq(end.values.each()) && self.age_fits(next.objects, end)
             }
             (None, None) => false,
         }
     }
 
-    /// Does a read of this object that ended so have the age of one that comes
-    /// next in the order?
-    fn age_fits(&self, object: u16, end: End) -> bool {
-        let round = |o: &Operation| o.object == object && o.written.is_some() && o.begun < end.at;
+    /// Does a read of these objects that ended so have the age of one that comes
+    /// next in the order? Only a read of one object is old or new.
+    fn age_fits(&self, objects: Objects, end: End) -> bool {
+        let round =
+            |o: &Operation| o.written.is_some() && o.objects == objects && o.begun < end.at;
         match end.age {
             Age::None => true,
             Age::Old => self.left().any(|(_, o)| round(o)),
-            Age::New => self.last_write(object).is_some(),
+            Age::New => objects.each().all(|o| self.last_write(o).is_some()),
         }
     }
 
@@ -177,14 +195,14 @@ impl Search<'_> {
     fn last_write(&self, object: u16) -> Option<usize> {
         let ours = |&&number: &&usize| {
             let operation = &self.operations[number - 1];
-            operation.object == object && operation.written.is_some()
+            operation.written.is_some() && operation.objects == Few::one(object)
         };
         self.order.iter().rev().find(ours).copied()
     }
 
-    /// The last write for each operation's object.
+    /// The last write for each of every operation's objects.
     fn last_writes(&self) -> Vec<Option<usize>> {
-        let objects = self.operations.iter().map(|o| o.object);
+        let objects = self.operations.iter().flat_map(|o| o.objects.each());
         objects.map(|object| self.last_write(object)).collect()
     }
 
@@ -204,12 +222,12 @@ mod tests {
 
     fn write(object: u16, value: u32, begun: usize, at: Option<usize>) -> Operation {
         Operation {
-            object,
+            objects: Few::one(object),
             written: Some(value),
             begun,
             finished: at.map(|at| End {
                 at,
-                value,
+                values: Few::one(value),
                 age: Age::None,
             }),
         }
@@ -221,10 +239,28 @@ mod tests {
 
     fn aged(age: Age, object: u16, value: u32, begun: usize, at: usize) -> Operation {
         Operation {
-            object,
+            objects: Few::one(object),
             written: None,
             begun,
-            finished: Some(End { at, value, age }),
+            finished: Some(End {
+                at,
+                values: Few::one(value),
+                age,
+            }),
+        }
+    }
+
+    /// A read of a context.
+    fn context(objects: &[u16], values: &[u32], begun: usize, at: usize) -> Operation {
+        Operation {
+            objects: Few::new(objects),
+            written: None,
+            begun,
+            finished: Some(End {
+                at,
+                values: Few::new(values),
+                age: Age::None,
+            }),
         }
     }
 
@@ -275,12 +311,20 @@ mod tests {
 
     #[test]
     fn a_write_must_finish_with_its_own_value() {
-        let end = |value, age| End { at: 3, value, age };
+        let end = |values: &[u32], age| End {
+            at: 3,
+            values: Few::new(values),
+            age,
+        };
         let mut wrong = write(3, 1, 2, Some(3));
-        wrong.finished = Some(end(2, Age::None));
-        assert_eq!(find_order(&[wrong]), None);
-        wrong.finished = Some(end(1, Age::New));
-        assert_eq!(find_order(&[wrong]), None);
+        for end in [
+            end(&[2], Age::None),
+            end(&[1], Age::New),
+            end(&[1, 1], Age::None),
+        ] {
+            wrong.finished = Some(end);
+            assert_eq!(find_order(&[wrong]), None);
+        }
     }
 
     #[test]
@@ -317,6 +361,74 @@ mod tests {
         assert_eq!(find_order(&[&writes[..], &differ[..]].concat()), None);
     }
 
+    /// Objects 1 and 2 are written one after the other, 7 and then 8. The pair
+    /// 0,8 stands at no point.
+    #[test]
+    fn a_context_whose_pair_stands_at_no_point_has_no_order() {
+        let writes = [write(1, 7, 2, Some(3)), write(2, 8, 4, Some(5))];
+        let with = |values: &[u32]| {
+            let read = context(&[1, 2], values, 1, 9);
+            find_order(&[read, writes[0], writes[1]])
+        };
+        assert_eq!(with(&[0, 0]), Some(vec![1, 2, 3]));
+        assert_eq!(with(&[7, 0]), Some(vec![2, 1, 3]));
+        assert_eq!(with(&[7, 8]), Some(vec![2, 3, 1]));
+        assert_eq!(with(&[0, 8]), None);
+        assert_eq!(with(&[8, 7]), None, "not in the order given");
+    }
+
+    /// The values of two single reads may stand at two points, those of one read
+    /// of both objects may not.
+    #[test]
+    fn two_single_reads_have_an_order_where_a_context_has_none() {
+        let writes = [write(1, 7, 2, Some(3)), write(2, 8, 4, Some(5))];
+        let single = [read(1, 0, 1, 9), read(2, 8, 1, 9)];
+        let both = [context(&[1, 2], &[0, 8], 1, 9)];
+        assert!(find_order(&[&writes[..], &single[..]].concat()).is_some());
+        assert_eq!(find_order(&[&writes[..], &both[..]].concat()), None);
+    }
+
+    /// Two contexts, all writes open: one has seen the write of object 1 only,
+    /// the other that of object 2 only.
+    #[test]
+    fn two_contexts_must_agree_on_two_writes() {
+        let writes = [write(1, 7, 2, None), write(2, 8, 2, None)];
+        let first = context(&[1, 2], &[7, 0], 3, 9);
+        let swapped = context(&[2, 1], &[8, 0], 3, 9);
+        let later = context(&[2, 1], &[8, 7], 3, 9);
+        let order = |reads: &[Operation]| find_order(&[&writes[..], reads].concat());
+        assert_eq!(order(&[first, later]), Some(vec![1, 3, 2, 4]));
+        assert_eq!(order(&[first]), Some(vec![1, 3]));
+        assert_eq!(order(&[swapped]), Some(vec![2, 3]));
+        assert_eq!(order(&[first, swapped]), None);
+    }
+
+    #[test]
+    fn a_context_has_a_value_for_each_object_and_no_age() {
+        let sound = context(&[1, 2], &[0, 0], 2, 3);
+        assert_eq!(find_order(&[sound]), Some(vec![1]));
+        assert_eq!(find_order(&[context(&[1, 2], &[0], 2, 3)]), None);
+        assert_eq!(find_order(&[context(&[1, 2], &[0; 3], 2, 3)]), None);
+        assert_eq!(find_order(&[context(&[1], &[0; 2], 2, 3)]), None);
+        let eight = [1, 2, 3, 4, 5, 6, 7, 8];
+        assert_eq!(find_order(&[context(&eight, &[0; 9], 2, 3)]), None);
+        for age in [Age::Old, Age::New] {
+            let mut aged = sound;
+            aged.finished = aged.finished.map(|end| End { age, ..end });
+            let writes = [write(1, 0, 1, None), write(2, 0, 1, None)];
+            assert_eq!(find_order(&[writes[0], writes[1], aged]), None);
+        }
+    }
+
+    #[test]
+    fn the_history_of_a_context() {
+        let input = file("start 1; write 6 9; 4 * deliver 0; read 5 5; read 6 5; 3 * deliver 0");
+        let operations = history(&input, &output(&input)).unwrap();
+        let read = context(&[6, 5], &[9, 0], 8, 11);
+        assert_eq!(operations, [write(6, 9, 2, Some(5)), read]);
+        assert_eq!(find_order(&operations), Some(vec![1, 2]));
+    }
+
     #[test]
     fn the_history_of_the_listing() {
         let input = file(
@@ -343,7 +455,17 @@ mod tests {
         let second = |line: &str| format!("1 ok 0 0 - - -\n2 {line}\n").into_bytes();
         assert!(history(&input, &second("ok 1 0 - - -")).is_some());
         assert!(history(&input, &second("ok 1 0 1 9 old")).is_some());
-        let others = ["ok", "ok 1 0 - -", "ok 1 0 7 9 -", "ok 1 0 1 9 odd", "no"];
+        assert!(history(&input, &second("ok 1 0 1 9,8 -")).is_some());
+        let others = [
+            "ok",
+            "ok 1 0 - -",
+            "ok 1 0 7 9 -",
+            "ok 1 0 1 9 odd",
+            "ok 1 0 1 9, -",
+            "ok 1 0 1 ,9 -",
+            "ok 1 0 1 9;8 -",
+            "no",
+        ];
         for line in others {
             assert_eq!(history(&input, &second(line)), None, "{line}");
         }

@@ -1,7 +1,7 @@
 //! What the run program prints (document 01, section of that name; document
-//! 02, Req 01).
+//! 02, Req 01 and Req 02).
 
-use crate::model::{Answer, Finished, Model, Refusal};
+use crate::model::{Answer, Finished, Model, Refusal, Step};
 use crate::records::{Reader, Record};
 
 /// "Input above 65,536 bytes" is turned down whole.
@@ -19,7 +19,16 @@ pub struct Accepted {
 pub type Outcome = Result<Accepted, Refusal>;
 
 /// Runs an input and shows each line's number and outcome.
-pub fn walk(input: &[u8], mut show: impl FnMut(usize, Outcome)) {
+pub fn walk(input: &[u8], show: impl FnMut(usize, Outcome)) {
+    walk_by(input, Model::step, show);
+}
+
+/// Runs an input with steps made in this way.
+fn walk_by(
+    input: &[u8],
+    mut make: impl FnMut(&mut Model, Step) -> Answer,
+    mut show: impl FnMut(usize, Outcome),
+) {
     if input.len() > INPUT_LONGEST {
         return show(0, Err(Refusal::InputTooLong));
     }
@@ -33,7 +42,7 @@ pub fn walk(input: &[u8], mut show: impl FnMut(usize, Outcome)) {
         let Ok(Record::Step(step)) = record else {
             return show(number, Err(Refusal::BadRecord));
         };
-        let answer = model.step(step);
+        let answer = make(&mut model, step);
         show(number, outcome(&model, answer));
     }
 }
@@ -57,8 +66,14 @@ fn outcome(model: &Model, answer: Answer) -> Outcome {
 
 /// Everything the run program prints for an input.
 pub fn output(input: &[u8]) -> Vec<u8> {
+    output_by(input, Model::step)
+}
+
+/// What is printed if steps are made in this way: `Model::step`, or a wrong one
+/// in a program that is wrong on purpose.
+pub fn output_by(input: &[u8], make: impl FnMut(&mut Model, Step) -> Answer) -> Vec<u8> {
     let mut out = Vec::with_capacity(64 + 4 * input.len());
-    walk(input, |number, outcome| {
+    walk_by(input, make, |number, outcome| {
         push_line(&mut out, number, outcome);
     });
     out
@@ -84,15 +99,18 @@ fn push_line(out: &mut Vec<u8>, number: usize, outcome: Outcome) {
 }
 
 /// "Operation and value just finished, or `- -`", then `old`, `new` or `-`,
-/// with a space before each.
+/// with a space before each; several values are "joined by commas, in the order
+/// given".
 fn push_finished(out: &mut Vec<u8>, finished: Option<Finished>) {
     let Some(finished) = finished else {
         return out.extend_from_slice(b" - - -");
     };
     out.push(b' ');
     push_number(out, usize::from(finished.operation));
-    out.push(b' ');
-    push_number(out, finished.value as usize);
+    for (place, value) in finished.values.each().enumerate() {
+        out.push(if place == 0 { b' ' } else { b',' });
+        push_number(out, value as usize);
+    }
     out.push(b' ');
     out.extend_from_slice(finished.age.word().as_bytes());
 }
@@ -148,6 +166,23 @@ mod tests {
                      9 ok 2 1 - - -\n10 ok 4 1 - - -\n11 ok 4 1 - - -\n\
                      12 ok 3 1 2 0 old\n13 ok 2 1 1 9 -\n14 ok 1 0 - - -\n\
                      15 ok 0 0 3 9 new\n";
+        assert_eq!(text(&input), lines);
+    }
+
+    /// A read of objects 5, 6 and 7 before any write, one with a pending write
+    /// of object 6, and one answered directly in another order.
+    #[test]
+    fn values_joined_by_commas() {
+        let input = file(
+            "start 1; read 5 6 7; 3 * deliver 0; write 6 9; deliver 0; read 5 6; \
+             2 * deliver 0; 2 * deliver 1; deliver 0; deliver 0; \
+             read 6 5; 3 * deliver 0",
+        );
+        let lines = "1 ok 0 0 - - -\n2 ok 1 0 - - -\n3 ok 1 0 - - -\n4 ok 1 0 - - -\n\
+                     5 ok 0 0 1 0,0,0 -\n6 ok 1 0 - - -\n7 ok 1 1 - - -\n8 ok 2 1 - - -\n\
+                     9 ok 3 1 - - -\n10 ok 3 1 - - -\n11 ok 2 0 - - -\n12 ok 2 0 - - -\n\
+                     13 ok 1 0 2 9 -\n14 ok 0 0 3 0,9 -\n15 ok 1 0 - - -\n\
+                     16 ok 1 0 - - -\n17 ok 1 0 - - -\n18 ok 0 0 4 9,0 -\n";
         assert_eq!(text(&input), lines);
     }
 

@@ -5,8 +5,9 @@ use crate::model::Step;
 use crate::records::{append, read, Record};
 
 /// The record file that some words say. `N * step` and `N * (step; step)` are
-/// done N times, `deliver P` has choice 0, `bytes B ...` are raw bytes, and
-/// `fill L` puts zeros up to length L.
+/// done N times, `deliver P` has choice 0, `read` with several objects is a read
+/// of a context, `bytes B ...` are raw bytes, and `fill L` puts zeros up to
+/// length L.
 ///
 /// Panics if the words make no sense: they are written in this program.
 pub fn file(words: &str) -> Vec<u8> {
@@ -65,6 +66,9 @@ fn record(phrase: &str) -> Record {
             position: position as u16,
             choice: choice as u8,
         },
+        ("read", &[_, _, ..]) => Step::Context {
+            objects: fields.iter().map(|&object| object as u16).collect(),
+        },
         (verb, &[field]) => with_one_field(verb, field),
         _ => panic!("no step: {phrase:?}"),
     };
@@ -112,6 +116,10 @@ pub fn describe(piece: &[u8]) -> String {
         Step::Tell { replica } => format!("tell {replica}"),
         Step::Remove { replica } => format!("remove {replica}"),
         Step::GiveUp { operation } => format!("give up {operation}"),
+        Step::Context { objects } => {
+            let objects: Vec<String> = objects.each().map(|o| o.to_string()).collect();
+            format!("read {}", objects.join(" "))
+        }
     }
 }
 
@@ -130,6 +138,14 @@ mod tests {
     }
 
     #[test]
+    fn one_object_or_several() {
+        assert_eq!(file("read 5"), [1, 0, 2, 0, 5]);
+        assert_eq!(file("read 5 258"), [11, 0, 4, 0, 5, 1, 2]);
+        let eight = file("read 1 2 3 4 5 6 7 8");
+        assert_eq!((eight.len(), &eight[..3]), (19, &[11, 0, 16][..]));
+    }
+
+    #[test]
     fn groups_and_filling() {
         let made = file("start 1; 2 * (tell 1; advance 1); fill 25");
         let pair = [8, 0, 1, 1, 6, 0, 1, 1];
@@ -140,7 +156,8 @@ mod tests {
     #[test]
     fn describing_and_making_are_inverse() {
         let words = "start 3; read 1; write 2 3; deliver 4 5; lose 6; repeat 7; \
-                     advance 8; replace 9; tell 10; remove 11; give up 12; bytes 1 2";
+                     advance 8; replace 9; tell 10; remove 11; give up 12; read 14 13; \
+                     read 22 21 20 19 18 17 16 15; bytes 11 0 2 0 5; bytes 1 2";
         let made = file(words);
         let told: Vec<String> = pieces(&made).into_iter().map(describe).collect();
         assert_eq!(told.join("; "), words);

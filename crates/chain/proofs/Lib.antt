@@ -1,3 +1,2 @@
 -- The laws of the chain for the crates above.
-pub mod AllOf
 pub mod Members

@@ -14,7 +14,7 @@ use Rattle.lists.proofs.Index.{index-first, index-none, index-at, in-index, at-
 use Rattle.lists.proofs.Places.{length-listOf, getD-listOf}
 use Rattle.store.specs.{liveCount, orderAt, members, permittedBy}
 use Rattle.chain.specs.{chainPlace, isLive, memberAt, headOf, tailOf, chosenBy, permits, allPermit}
-use Rattle.chain.proofs.AllOf.{all-pass, all-fail, all-member}
+use Rattle.lists.proofs.AllOf.{all-pass, all-fail, all-member}
 
 -- what holds of both ways of a test holds of its outcome
 pub by-test : {A : Type 0} (P : A → Type 0) (t : Bool) (x y : A) → (t ≡ true → P x) → (t ≡ false → P y) → P (cond t x y)

@@ -1,11 +1,11 @@
 -- The chain of document 01, 'Parts and how big they are': which replicas are live and in which order, and how that changes. s is what the lent store holds.
-use mathlib.Core.Bool.{Bool, true, false, cond}
-use mathlib.Core.List.{List, [], _∷_}
+use mathlib.Core.Bool.{Bool, cond}
+use mathlib.Core.List.{List}
 use Prim.Native.Nat.{ℕ, zero, suc, _+_, _-_, _%_}
 use lib.ListN.{getD, set, replicate}
 use lib.Dec.{eqb, ltb}
 use Rattle.limits.specs as limits
-use Rattle.lists.specs.{moves, indexOf}
+use Rattle.lists.specs.{moves, indexOf, allOf}
 use Rattle.store.specs.{liveCell, orderCell, permitCell, storeCells, rowOf, liveCount, members, permittedBy}
 
 -- the replica's place in the chain, from 0
@@ -29,14 +29,10 @@ tailOf s = memberAt s (liveCount s - 1)
 unfoldable pub chosenBy : List ℕ → ℕ → ℕ
 chosenBy s choice = memberAt s (choice % liveCount s)
 
--- 'every live replica permits this switch's number'
-unfoldable pub allOf : (ℕ → Bool) → List ℕ → Bool
-allOf test [] = true
-allOf test (q ∷ l) = cond (test q) (allOf test l) false
-
 unfoldable pub permits : List ℕ → ℕ → ℕ → Bool
 permits s number r = eqb (permittedBy s r) number
 
+-- 'every live replica permits this switch's number'
 unfoldable pub allPermit : List ℕ → ℕ → Bool
 allPermit s number = allOf (permits s number) (members s)
 

@@ -21,6 +21,17 @@ openOperations = 64
 abbrev pub linked : ℕ
 linked = 64
 
+-- Req 02: a read of a whole context names 2 to 8 objects
+abbrev pub contextLeast : ℕ
+contextLeast = 2
+
+abbrev pub contextMost : ℕ
+contextMost = 8
+
+-- as many contexts as packets can wait
+abbrev pub contexts : ℕ
+contexts = 64
+
 -- 'input above 65,536 bytes' is refused
 abbrev pub input : ℕ
 input = 65536

@@ -1,3 +1,4 @@
+pub mod AllOf
 pub mod Closing
 pub mod Index
 pub mod Places

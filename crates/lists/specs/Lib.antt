@@ -1,5 +1,5 @@
--- Lists: closing one up by one element, the place of a number, and a list by its places.
-use mathlib.Core.Bool.{cond}
+-- Lists: closing one up by one element, the place of a number, a list by its places, and a test of every number.
+use mathlib.Core.Bool.{Bool, true, false, cond}
 use mathlib.Core.List.{List, [], _∷_, _++_}
 use Prim.Native.Nat.{ℕ, zero, suc, _+_}
 use lib.Dec.{eqb}
@@ -23,3 +23,8 @@ indexOf (q ∷ l) r = cond (eqb q r) 0 (suc (indexOf l r))
 unfoldable pub listOf : (ℕ → ℕ) → ℕ → List ℕ
 listOf f zero = []
 listOf f (suc n) = f 0 ∷ listOf (λ i. f (suc i)) n
+
+-- every number passes a test
+unfoldable pub allOf : (ℕ → Bool) → List ℕ → Bool
+allOf test [] = true
+allOf test (q ∷ l) = cond (test q) (allOf test l) false

@@ -15,8 +15,12 @@ openCountCell = 64
 abbrev pub lastGivenCell : ℕ
 lastGivenCell = 65
 
+-- behind them lie the contexts of crates/contexts: 64 rows of nine cells
+abbrev pub contextCells : ℕ
+contextCells = 66
+
 abbrev pub openCells : ℕ
-openCells = 66
+openCells = 642
 
 -- 'at most 64 are open'
 unfoldable pub openCount : List ℕ → ℕ

@@ -11,7 +11,10 @@ pub const COUNT: usize = 64;
 
 pub const LAST: usize = 65;
 
-pub const CELLS: usize = 66;
+// Behind them lie the contexts of crates/contexts: 64 rows of nine cells.
+pub const CONTEXTS: usize = 66;
+
+pub const CELLS: usize = 642;
 
 fn wide(x: u32) -> usize
     ensures { λ r. ⌜ r ≡ x ⌝ }

@@ -116,7 +116,8 @@ fn warn_of_gaps(task: &Task, tally: &Tally) {
     for number in reachable().filter(|&number| tally.refusals[number] == 0) {
         println!("refusal {number} never occurred");
     }
-    for (word, times) in [("old", tally.old), ("new", tally.new)] {
+    let ages = [("old", tally.old), ("new", tally.new)];
+    for (word, times) in ages.into_iter().chain(tally.contexts.rows()) {
         if times == 0 {
             println!("{word} never occurred");
         }

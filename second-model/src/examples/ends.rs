@@ -36,7 +36,7 @@ one-byte: bytes 32 => 1 no 1
 
 unknown-tag-0: start 2; bytes 0 0 2 0 0 => 2 no 1
 
-unknown-tag-11: start 2; bytes 11 0 2 0 0 => 2 no 1
+unknown-tag-12: start 2; bytes 12 0 2 0 0 => 2 no 1
 
 unknown-tag-31: start 2; bytes 31 0 1 1 => 2 no 1
 

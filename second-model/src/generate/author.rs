@@ -2,7 +2,7 @@
 
 use super::mood::*;
 use super::Random;
-use crate::model::{Model, Packet, Step, FULL, REPLICAS};
+use crate::model::{Few, Model, Objects, Packet, Stamp, Step, FULL, MOST, REPLICAS};
 use crate::records::{append, Record, LONGEST};
 
 /// Writes one file: the mood, the model as it stands, the bytes so far.
@@ -14,10 +14,26 @@ pub struct Author {
 }
 
 /// Can whole records fill what is left after one of this size? They have 4, 5,
-/// 6 or 9 bytes.
+/// 6 or 9 bytes; those with several objects are not counted on.
 fn leaves_room(left: usize, size: usize) -> bool {
     let after = left.checked_sub(size);
     after.is_some_and(|after| !matches!(after, 1..=3 | 7))
+}
+
+/// The stamp of an object at a replica; (0,0) if it is gone.
+fn stamp(model: &Model, replica: u8, object: u16) -> Stamp {
+    let held = model.held(replica, object);
+    held.map_or(Stamp::ZERO, |held| held.stamp)
+}
+
+/// Is this a normal read with a stamp, or of several objects?
+fn slow(packet: &Packet) -> bool {
+    match packet {
+        Packet::NormalRead {
+            carried, objects, ..
+        } => carried.is_some() || objects.is_context(),
+        _ => false,
+    }
 }
 
 impl Author {
@@ -97,7 +113,12 @@ impl Author {
             drawn -= weight;
         }
         if self.random.chance(self.mood.wild) {
-            let action = self.random.one_of(&[action, self.random.0 as usize % 10]);
+            let others = match self.mood.weights[CONTEXT] {
+                0 => ACTIONS - 1,
+                _ => ACTIONS,
+            };
+            let other = self.random.0 as usize % others;
+            let action = self.random.one_of(&[action, other]);
             return self.act_wildly(action);
         }
         self.act(action)
@@ -105,7 +126,7 @@ impl Author {
 
     /// The mood's weights, moved so that the run stays where the mood wants
     /// it and most steps are accepted.
-    fn weights(&self) -> [usize; 10] {
+    fn weights(&self) -> [usize; ACTIONS] {
         let (mood, model) = (&self.mood, &self.model);
         let mut weights = mood.weights;
         if model.waiting() < mood.waiting {
@@ -114,6 +135,7 @@ impl Author {
         } else {
             weights[READ] /= 4;
             weights[WRITE] /= 4;
+            weights[CONTEXT] /= 4;
             weights[REPEAT] /= 4;
         }
         if model.linked() < mood.linked {
@@ -127,6 +149,7 @@ impl Author {
         if model.open() >= FULL {
             weights[READ] /= 8;
             weights[WRITE] /= 8;
+            weights[CONTEXT] /= 8;
         }
         let middle = mood.mischief && self.laden_middle().is_some();
         if middle || self.head_gone_round().is_some() {
@@ -136,7 +159,7 @@ impl Author {
     }
 
     /// Some weights without the actions that would now be refused or idle.
-    fn without_idle(&self, mut weights: [usize; 10]) -> [usize; 10] {
+    fn without_idle(&self, mut weights: [usize; ACTIONS]) -> [usize; ACTIONS] {
         let model = &self.model;
         let now = Some(model.switch_number());
         if model.waiting() == 0 {
@@ -153,6 +176,7 @@ impl Author {
         }
         if model.begun() >= self.mood.begins {
             weights[READ..=WRITE].fill(0);
+            weights[CONTEXT] = 0;
         }
         if model.live().len() == 1 {
             weights[REMOVE] = 0;
@@ -185,10 +209,67 @@ impl Author {
                 replica: self.untold(),
             },
             REMOVE => self.removal(),
+            CONTEXT => Step::Context {
+                objects: self.context(),
+            },
             _ => Step::GiveUp {
                 operation: self.open_operation(),
             },
         }
+    }
+
+    /// Some of the mood's objects in any order, each once; now and then any
+    /// objects are put in their midst.
+    fn context(&mut self) -> Objects {
+        let mut objects = self.mood.objects.clone();
+        for place in (1..objects.len()).rev() {
+            objects.swap(place, self.random.within(0, place));
+        }
+        if self.random.chance(150) {
+            let others = self.random.within(1, MOST);
+            for _ in 0..others {
+                let object = self.random.below(1024) as u16;
+                if !objects.contains(&object) {
+                    let place = self.random.within(0, objects.len());
+                    objects.insert(place, object);
+                }
+            }
+        }
+        let most = objects.len().min(MOST);
+        objects.truncate(self.random.within(2, most));
+        Few::new(&objects)
+    }
+
+    /// A context with an object above 1,023, with one named twice, with both,
+    /// with an object at a limit, or of eight objects with one of these faults.
+    fn wild_context(&mut self) -> Objects {
+        let mut objects = self.context().kept().to_vec();
+        if self.random.chance(500) {
+            let next = |k: usize| (objects[0] as usize + 7 * k) % 1024;
+            objects = (0..MOST).map(|k| next(k) as u16).collect();
+        }
+        let (first, second) = (
+            self.random.below(objects.len()),
+            self.random.below(objects.len()),
+        );
+        let above = self.random.one_of(&[1024, 1025, 32_768, 65_535]);
+        let limit = self.random.one_of(&[0, 15, 16, 63, 64, 1022, 1023]);
+        let fault = self.random.below(8);
+        match fault {
+            0..3 => objects[second] = objects[first],
+            3 => objects[first] = above,
+            4 | 5 => {
+                objects[second] = objects[first];
+                let third = self.random.below(objects.len());
+                objects[third] = above;
+            }
+            6 => {
+                objects[first] = above;
+                objects[second] = above;
+            }
+            _ => objects[first] = limit,
+        }
+        Few::new(&objects)
     }
 
     /// A write, most often with a value that no other write has.
@@ -238,10 +319,10 @@ impl Author {
         let ahead = |p: &Packet| match *p {
             Packet::DirectRead {
                 to,
-                object,
+                objects,
                 committed,
                 ..
-            } => model.held(to, object).is_some_and(|h| h.stamp > committed),
+            } => objects.each().any(|o| stamp(model, to, o) > committed),
             _ => false,
         };
         let first = self.first(ahead);
@@ -258,12 +339,15 @@ impl Author {
         }
     }
 
-    /// Now and then a read whose object has a counting mark, else the oldest
+    /// Now and then a read of an object with a counting mark, else the oldest
     /// packet or any; most often another one for a packet to be held back.
     fn round_position(&mut self) -> u16 {
         let model = &self.model;
         let marked = self.first(|p| match *p {
-            Packet::Read { object, .. } => model.counting_mark(object).is_some(),
+            Packet::Read { objects, .. } => {
+                let mut marks = objects.each().map(|o| model.counting_mark(o));
+                marks.any(|mark| mark.is_some())
+            }
             _ => false,
         });
         let position = match (marked, self.random.chance(self.mood.orderly)) {
@@ -281,12 +365,12 @@ impl Author {
     }
 
     /// How often of a thousand times a packet is held back: completions as the
-    /// mood wants, normal reads with a stamp, and replies while another copy
-    /// of their read waits.
+    /// mood wants, normal reads with a stamp or of several objects, and replies
+    /// while another copy of their read waits.
     fn held_back(&self, packet: &Packet) -> usize {
         match *packet {
             Packet::Completion { .. } => self.mood.late,
-            Packet::NormalRead { carried, .. } if carried.is_some() => 500,
+            Packet::NormalRead { .. } if slow(packet) => 500,
             Packet::Reply { operation, .. } => {
                 let copy = |p: &Packet| match *p {
                     Packet::NormalRead { operation: o, .. } => o == operation,
@@ -307,13 +391,13 @@ impl Author {
         self.any_position()
     }
 
-    /// A normal read with a stamp as often as not, if the mood wants them
-    /// repeated and one waits.
+    /// A normal read with a stamp or of several objects as often as not, if the
+    /// mood wants them repeated and one waits.
     fn carrying(&mut self) -> Option<u16> {
         if !self.mood.rounds || self.random.chance(500) {
             return None;
         }
-        self.first(|p| matches!(p, Packet::NormalRead { carried, .. } if carried.is_some()))
+        self.first(slow)
     }
 
     /// Most often a packet that may be repeated, if a few tries find one.
@@ -445,6 +529,9 @@ impl Author {
             REPLACE => self.wild_replacement(),
             TELL => Step::Tell { replica },
             REMOVE => Step::Remove { replica },
+            CONTEXT => Step::Context {
+                objects: self.wild_context(),
+            },
             _ => Step::GiveUp { operation },
         }
     }

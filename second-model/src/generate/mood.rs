@@ -14,6 +14,9 @@ pub const REPLACE: usize = 6;
 pub const TELL: usize = 7;
 pub const REMOVE: usize = 8;
 pub const GIVE_UP: usize = 9;
+pub const CONTEXT: usize = 10;
+/// How many actions there are.
+pub const ACTIONS: usize = 11;
 
 /// What a run tends to do.
 pub struct Mood {
@@ -22,7 +25,7 @@ pub struct Mood {
     /// The objects it reads and writes.
     pub objects: Vec<u16>,
     /// How often each action is taken.
-    pub weights: [usize; 10],
+    pub weights: [usize; ACTIONS],
     /// The numbers of waiting packets, linked writes and open operations
     /// around which it stays.
     pub waiting: usize,
@@ -51,7 +54,7 @@ pub fn mood(kind: &str, random: &mut Random, length: usize) -> Mood {
     let mut mood = Mood {
         replicas: random.within(1, 8) as u8,
         objects: some_objects(random, 40),
-        weights: [1500, 1500, 6000, 150, 200, 3000, 4, 1500, 0, 100],
+        weights: [1500, 1500, 6000, 150, 200, 3000, 4, 1500, 0, 100, 0],
         waiting: random.within(3, 30),
         linked: random.within(2, 12),
         open: random.within(20, 60),
@@ -78,6 +81,9 @@ pub fn mood(kind: &str, random: &mut Random, length: usize) -> Mood {
         "lone" => mood.replicas = 1,
         "small" => stay_small(&mut mood, random, length),
         "limits" => go_wild(&mut mood, random),
+        "contexts" => read_contexts(&mut mood, random, length),
+        "context-faults" => refuse_contexts(&mut mood, random, length),
+        "small-contexts" => stay_small_with_contexts(&mut mood, random, length),
         _ => {}
     }
     mood
@@ -211,7 +217,7 @@ fn stay_small(mood: &mut Mood, random: &mut Random, length: usize) {
     mood.begins = random.within(5, 8) as u16;
     mood.waiting = random.within(2, 5);
     mood.linked = 0;
-    mood.weights = [700, 450, 6000, 60, 200, 2500, 30, 2500, 0, 5];
+    mood.weights = [700, 450, 6000, 60, 200, 2500, 30, 2500, 0, 5, 0];
     mood.weights[ADVANCE] = random.one_of(&[400, 1000, 2500]);
     mood.weights[REMOVE] = removal_weight(length, random.one_of(&[0, 1, 1]));
     mood.orderly = random.one_of(&[0, 200, 500]);
@@ -225,6 +231,65 @@ fn go_wild(mood: &mut Mood, random: &mut Random) {
     if random.chance(100) {
         mood.replicas = random.one_of(&[0, 9, 10, 128, 255]);
     }
+}
+
+/// So many objects, none twice.
+fn different_objects(random: &mut Random, first: usize, last: usize) -> Vec<u16> {
+    let count = random.within(first, last);
+    let mut objects = Vec::new();
+    while objects.len() < count {
+        let object = random.below(usize::from(OBJECTS)) as u16;
+        if !objects.contains(&object) {
+            objects.push(object);
+        }
+    }
+    objects
+}
+
+/// Reads of several objects among single reads and writes of the same few
+/// objects. The list, the open operations or neither are nearly full; direct
+/// reads are held back, or normal reads, or neither; switches are replaced
+/// often, now and then or never.
+fn read_contexts(mood: &mut Mood, random: &mut Random, length: usize) {
+    mood.replicas = random.one_of(&[1, 2, 2, 3, 3, 4, 5, 8]);
+    mood.objects = different_objects(random, 2, 10);
+    mood.weights[READ] = 700;
+    mood.weights[WRITE] = random.one_of(&[300, 800, 1500]);
+    mood.weights[CONTEXT] = 2500;
+    mood.weights[REPEAT] = random.one_of(&[200, 1500]);
+    mood.weights[LOSE] = random.one_of(&[150, 600]);
+    mood.weights[REPLACE] = random.one_of(&[0, 4, 60]);
+    mood.weights[TELL] = random.one_of(&[300, 4000]);
+    mood.weights[REMOVE] = removal_weight(length, random.one_of(&[0, 2, 6]));
+    mood.orderly = random.one_of(&[100, 500, 800]);
+    mood.linked = random.within(0, 6);
+    match random.below(8) {
+        0 | 1 => mood.waiting = random.within(61, 65),
+        2 => fill_open(mood, random),
+        _ => mood.waiting = random.within(3, 20),
+    }
+    match random.below(3) {
+        0 => mood.mischief = true,
+        1 => mood.rounds = true,
+        _ => {}
+    }
+    mood.late = random.one_of(&[0, 0, 500, 900]);
+}
+
+/// The same with fields at their limits: objects above 1,023, objects named
+/// twice, and both together.
+fn refuse_contexts(mood: &mut Mood, random: &mut Random, length: usize) {
+    read_contexts(mood, random, length);
+    mood.wild = random.one_of(&[50, 400]);
+}
+
+/// Few operations on two or three objects, which most reads name together.
+fn stay_small_with_contexts(mood: &mut Mood, random: &mut Random, length: usize) {
+    stay_small(mood, random, length);
+    mood.objects = different_objects(random, 2, 3);
+    mood.weights[READ] = 200;
+    mood.weights[WRITE] = 500;
+    mood.weights[CONTEXT] = 600;
 }
 
 #[cfg(test)]

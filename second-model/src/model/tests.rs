@@ -1,5 +1,5 @@
-//! The rules of document 01, and of Req 01 of document 02, at the level of
-//! single steps, worked out by hand.
+//! The rules of document 01, and of Req 01 and Req 02 of document 02, at the
+//! level of single steps, worked out by hand.
 
 use super::*;
 
@@ -13,25 +13,51 @@ fn no(refusal: Refusal) -> Answer {
     Err(refusal)
 }
 
-fn done(operation: u16, value: u32) -> Answer {
-    aged(operation, value, Age::None)
+/// A write finished.
+fn written(operation: u16, value: u32) -> Answer {
+    done(operation, &[value], Way::Write)
 }
 
+/// An operation finished with these values, in this way, by a reply that
+/// carries nothing.
+fn done(operation: u16, values: &[u32], way: Way) -> Answer {
+    Ok(Some(Finished {
+        operation,
+        values: Few::new(values),
+        age: Age::None,
+        way,
+    }))
+}
+
+/// A read that the switch sent to the tail finished with this age.
 fn aged(operation: u16, value: u32, age: Age) -> Answer {
     Ok(Some(Finished {
         operation,
-        value,
+        values: Few::one(value),
         age,
+        way: Way::Tail,
     }))
 }
 
 /// A reply that carries nothing.
-fn plain_reply(operation: u16, value: u32) -> Packet {
+fn plain_reply(operation: u16, values: &[u32], way: Way) -> Packet {
     Packet::Reply {
         operation,
-        value,
+        values: Few::new(values),
         carried: None,
         age: Age::None,
+        way,
+    }
+}
+
+/// A normal read that carries nothing.
+fn plain_read(to: u8, operation: u16, objects: &[u16], way: Way) -> Packet {
+    Packet::NormalRead {
+        to,
+        operation,
+        objects: Few::new(objects),
+        carried: None,
+        way,
     }
 }
 
@@ -39,6 +65,11 @@ fn plain_reply(operation: u16, value: u32) -> Packet {
 impl Model {
     fn read(&mut self, object: u16) -> Answer {
         self.step(Step::Read { object })
+    }
+
+    fn context(&mut self, objects: &[u16]) -> Answer {
+        let objects = Few::new(objects);
+        self.step(Step::Context { objects })
     }
 
     fn write(&mut self, object: u16, value: u32) -> Answer {
@@ -77,7 +108,7 @@ impl Model {
         assert_eq!(self.waiting(), 0);
         self.write_at_head(object, value);
         assert_eq!(self.move_on(2), OK);
-        assert_eq!(self.give(0), done(self.begun(), value));
+        assert_eq!(self.give(0), written(self.begun(), value));
         assert_eq!(self.give(0), OK);
     }
 
@@ -135,13 +166,8 @@ fn p6_direct_read_against_the_object_s_stamp() {
         assert_eq!(model.stamp(1, 5), Stamp::new(1, 4));
         assert_eq!(model.give(0), OK);
         let expected = match kind {
-            "reply" => plain_reply(5, 4),
-            _ => Packet::NormalRead {
-                to: 2,
-                operation: 4,
-                object: 5,
-                carried: None,
-            },
+            "reply" => plain_reply(5, &[4], Way::Direct),
+            _ => plain_read(2, 4, &[5], Way::SentOn),
         };
         assert_eq!(model.packets(), [expected]);
     }
@@ -157,7 +183,7 @@ fn direct_read_carries_number_and_last_committed() {
     let expected = Packet::DirectRead {
         to: 2,
         operation: 3,
-        object: 5,
+        objects: Few::one(5),
         switch: 1,
         committed: Stamp::new(1, 1),
     };
@@ -236,7 +262,8 @@ fn a_write_through_three_replicas() {
     assert_eq!(model.move_on(3), OK);
     let stamp = Stamp::new(1, 1);
     let completion = Packet::Completion { object: 5, stamp };
-    assert_eq!(model.packets(), [plain_reply(1, 9), completion]);
+    let reply = plain_reply(1, &[9], Way::Write);
+    assert_eq!(model.packets(), [reply, completion]);
     assert_eq!(model.move_on(1), no(Refusal::NothingIncoming));
     assert_eq!(model.move_on(4), no(Refusal::NotLive));
 }
@@ -293,7 +320,7 @@ fn a_reply_finishes_once() {
     assert_eq!(model.read(3), OK);
     assert_eq!(model.again(0), OK);
     (0..4).for_each(|_| assert_eq!(model.give(0), OK));
-    assert_eq!(model.give(0), done(1, 0));
+    assert_eq!(model.give(0), done(1, &[0], Way::Tail));
     assert_eq!(model.give(0), OK);
     let operation = 1;
     assert_eq!(model.step(Step::GiveUp { operation }), no(Refusal::NotOpen));
@@ -351,7 +378,7 @@ fn the_age_stays_as_it_was_when_answered() {
     assert_eq!(model.read(5), OK);
     (0..2).for_each(|_| assert_eq!(model.give(0), OK));
     assert_eq!(model.move_on(2), OK);
-    assert_eq!(model.give(1), done(1, 9));
+    assert_eq!(model.give(1), written(1, 9));
     assert_eq!(model.give(1), OK);
     assert_eq!(model.counting_mark(5), None);
     assert_eq!(model.give(0), aged(2, 0, Age::Old));
@@ -368,8 +395,8 @@ fn a_direct_read_sent_on_carries_nothing() {
     assert_eq!(model.give(0), OK);
     assert_eq!(carried(&model, 0), None);
     assert_eq!(model.give(0), OK);
-    assert_eq!(model.packets(), [plain_reply(2, 1)]);
-    assert_eq!(model.give(0), done(2, 1));
+    assert_eq!(model.packets(), [plain_reply(2, &[1], Way::SentOn)]);
+    assert_eq!(model.give(0), done(2, &[1], Way::SentOn));
 }
 
 /// In a run all marks count while direct reads are off: last-committed is
@@ -386,5 +413,226 @@ fn an_overtaken_mark_gives_no_stamp_with_direct_reads_off() {
     assert_eq!(model.give(1), OK);
     assert_eq!(carried(&model, 1), None);
     assert_eq!(model.give(1), OK);
-    assert_eq!(model.give(1), done(2, 0));
+    assert_eq!(model.give(1), done(2, &[0], Way::Tail));
+}
+
+#[test]
+fn contexts_of_two_to_eight_objects() {
+    for count in 0..12u16 {
+        let mut model = model(1);
+        let objects: Vec<u16> = (0..count).map(|k| 1023 - k).collect();
+        let answer = model.context(&objects);
+        match count {
+            2..=8 => {
+                assert_eq!(answer, OK);
+                let objects = Few::new(&objects);
+                let operation = 1;
+                assert_eq!(model.packets(), [Packet::Read { operation, objects }]);
+                assert_eq!((model.begun(), model.open()), (1, 1));
+            }
+            _ => {
+                assert_eq!(answer, no(Refusal::BadRecord));
+                assert_eq!((model.waiting(), model.begun(), model.open()), (0, 0, 0));
+            }
+        }
+    }
+}
+
+#[test]
+fn another_number_of_objects_comes_before_all_else() {
+    let mut model = model(1);
+    (0..64).for_each(|_| assert_eq!(model.read(7), OK));
+    model.begun = 65_535;
+    for objects in [&[][..], &[1024], &[1024; 9], &[5; 9]] {
+        assert_eq!(model.context(objects), no(Refusal::BadRecord));
+    }
+}
+
+/// From a state in which all of 3, 16, 4, 5 and 6 hold, one after the other is
+/// taken away.
+#[test]
+fn the_order_of_refusals_of_a_context() {
+    let mut model = model(1);
+    (0..64).for_each(|_| assert_eq!(model.read(7), OK));
+    model.begun = 65_535;
+    assert_eq!(model.context(&[1024, 1024]), no(Refusal::BadObject));
+    assert_eq!(model.context(&[5, 5, 1024]), no(Refusal::BadObject));
+    assert_eq!(model.context(&[5, 6, 5]), no(Refusal::NamedTwice));
+    assert_eq!(model.context(&[5, 6]), no(Refusal::NumbersUsedUp));
+    model.begun = 64;
+    assert_eq!(model.context(&[5, 5]), no(Refusal::NamedTwice));
+    assert_eq!(model.context(&[5, 6]), no(Refusal::TooManyOpen));
+    let operation = 1;
+    assert_eq!(model.step(Step::GiveUp { operation }), OK);
+    assert_eq!(model.context(&[5, 5]), no(Refusal::NamedTwice));
+    assert_eq!(model.context(&[5, 6]), no(Refusal::TooManyWaiting));
+    let position = 0;
+    assert_eq!(model.step(Step::Lose { position }), OK);
+    assert_eq!(model.context(&[5, 5]), no(Refusal::NamedTwice));
+    assert_eq!((model.waiting(), model.begun(), model.open()), (63, 64, 63));
+    assert_eq!(model.context(&[5, 6]), OK);
+    assert_eq!((model.waiting(), model.begun(), model.open()), (64, 65, 64));
+}
+
+/// Each object of each place above 1,023, and each pair of places with the same
+/// object.
+#[test]
+fn every_place_of_a_context_is_looked_at() {
+    let sound = [10, 11, 12, 13, 14, 15, 16, 17];
+    let mut model = model(1);
+    for count in 2..=8 {
+        for first in 0..count {
+            let mut objects = sound[..count].to_vec();
+            objects[first] = 1024;
+            assert_eq!(model.context(&objects), no(Refusal::BadObject));
+            for second in 0..first {
+                let mut objects = sound[..count].to_vec();
+                objects[first] = objects[second];
+                assert_eq!(model.context(&objects), no(Refusal::NamedTwice));
+            }
+        }
+        assert_eq!(model.context(&sound[..count]), OK);
+    }
+}
+
+/// A model of two with these writes through the chain, one after the other.
+fn with_values(values: &[(u16, u32)]) -> Model {
+    let mut model = model(2);
+    for &(object, value) in values {
+        model.write_through(object, value);
+    }
+    model
+}
+
+#[test]
+fn a_context_goes_directly_if_no_object_is_marked() {
+    let objects = [7, 5, 6];
+    for marked in [None, Some(7), Some(5), Some(6), Some(8)] {
+        let mut model = with_values(&[(5, 1), (6, 2)]);
+        if let Some(object) = marked {
+            model.write_at_head(object, 3);
+        }
+        let operation = model.begun() + 1;
+        assert_eq!(model.context(&objects), OK);
+        assert_eq!(model.give_to(0, 1), OK);
+        let direct = Packet::DirectRead {
+            to: 2,
+            operation,
+            objects: Few::new(&objects),
+            switch: 1,
+            committed: Stamp::new(1, 2),
+        };
+        let expected = match marked {
+            None | Some(8) => direct,
+            Some(_) => plain_read(2, operation, &objects, Way::Tail),
+        };
+        assert_eq!(model.packets(), [expected], "{marked:?}");
+    }
+}
+
+#[test]
+fn a_context_is_normal_while_direct_reads_are_off() {
+    let mut model = model(3);
+    assert_eq!(model.context(&[6, 5]), OK);
+    assert_eq!(model.give_to(0, 0), OK);
+    assert_eq!(model.packets(), [plain_read(3, 1, &[6, 5], Way::Tail)]);
+    assert_eq!(model.give(0), OK);
+    assert_eq!(model.packets(), [plain_reply(1, &[0, 0], Way::Tail)]);
+    assert_eq!(model.give(0), done(1, &[0, 0], Way::Tail));
+}
+
+/// A direct read of three objects at the head, which has applied a write of one
+/// of them, or of another object, meanwhile.
+#[test]
+fn a_direct_context_against_every_object_s_stamp() {
+    let objects = [7, 5, 6];
+    for ahead in [None, Some(7), Some(5), Some(6), Some(8)] {
+        let mut model = with_values(&[(5, 1), (6, 2)]);
+        assert_eq!(model.context(&objects), OK);
+        assert_eq!(model.give_to(0, 0), OK);
+        if let Some(object) = ahead {
+            model.write_at_head(object, 3);
+        }
+        assert_eq!(model.give(0), OK);
+        let (packet, way) = match ahead {
+            None | Some(8) => (plain_reply(3, &[0, 1, 2], Way::Direct), Way::Direct),
+            Some(_) => (plain_read(2, 3, &objects, Way::SentOn), Way::SentOn),
+        };
+        assert_eq!(model.packets(), [packet], "{ahead:?}");
+        if way == Way::SentOn {
+            assert_eq!(model.give(0), OK);
+        }
+        assert_eq!(model.give(0), done(3, &[0, 1, 2], way));
+    }
+}
+
+#[test]
+fn a_direct_context_of_a_switch_that_is_not_permitted() {
+    let mut model = with_values(&[(5, 1)]);
+    assert_eq!(model.context(&[5, 6]), OK);
+    assert_eq!(model.give_to(0, 0), OK);
+    assert_eq!(model.step(Step::Replace { switch: 2 }), OK);
+    assert_eq!(model.again(0), OK);
+    assert_eq!(model.give(0), OK, "the old switch is still permitted");
+    assert_eq!(model.packets()[1], plain_reply(2, &[1, 0], Way::Direct));
+    assert_eq!(model.step(Step::Tell { replica: 1 }), OK);
+    assert_eq!(model.give(0), OK);
+    assert_eq!(model.packets()[1], plain_read(2, 2, &[5, 6], Way::SentOn));
+}
+
+#[test]
+fn a_context_to_a_replica_gone_is_dropped() {
+    for (replica, direct) in [(1, true), (2, false)] {
+        let mut model = model(3);
+        if direct {
+            model.write_at_head(5, 9);
+            (2..=3).for_each(|r| assert_eq!(model.move_on(r), OK));
+            assert_eq!(model.give(0), written(1, 9));
+            assert_eq!(model.give(0), OK);
+        }
+        assert_eq!(model.context(&[5, 6]), OK);
+        assert_eq!(model.give_to(0, 0), OK);
+        assert_eq!(model.step(Step::Remove { replica }), OK);
+        let replica = 3;
+        assert_eq!(model.step(Step::Remove { replica }), OK);
+        assert_eq!(model.give(0), OK);
+        assert_eq!((model.waiting(), model.open()), (0, 1));
+    }
+}
+
+/// A copy made before the answer is answered anew, one made after it says the
+/// same; the first reply delivered finishes the read, the others are ignored.
+#[test]
+fn copies_of_a_context() {
+    let mut model = model(1);
+    assert_eq!(model.context(&[5, 6]), OK);
+    assert_eq!(model.give(0), OK);
+    assert_eq!(model.again(0), OK);
+    assert_eq!(model.give(0), OK);
+    assert_eq!(model.again(1), OK);
+    model.write_at_head(6, 9);
+    assert_eq!(model.give(0), OK);
+    let reply = |values| plain_reply(1, values, Way::Tail);
+    let replies = [model.packets()[0], model.packets()[1], model.packets()[4]];
+    assert_eq!(replies, [reply(&[0, 0]), reply(&[0, 0]), reply(&[0, 9])]);
+    assert_eq!(model.give(4), done(1, &[0, 9], Way::Tail));
+    (0..2).for_each(|_| assert_eq!(model.give(0), OK));
+    assert_eq!((model.waiting(), model.open()), (2, 1));
+}
+
+/// A marked object gives a context no age, whether it is answered before or
+/// after the write.
+#[test]
+fn a_context_has_no_age() {
+    let mut model = model(2);
+    model.write_at_head(5, 9);
+    assert_eq!(model.context(&[5, 6]), OK);
+    assert_eq!(model.give(0), OK);
+    assert_eq!(model.again(0), OK);
+    assert_eq!(carried(&model, 0), None);
+    assert_eq!(model.give(0), OK);
+    assert_eq!(model.move_on(2), OK);
+    assert_eq!(model.give(0), OK);
+    assert_eq!(model.packets()[0], plain_reply(2, &[0, 0], Way::Tail));
+    assert_eq!(model.packets()[3], plain_reply(2, &[9, 0], Way::Tail));
 }

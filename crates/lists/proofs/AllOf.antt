@@ -7,7 +7,7 @@ use Prim.Native.Nat.{ℕ, zero, suc, _<_, suc-le-suc, zero-le}
 use native.Mathlib.Nat.{not-suc-le-zero, le-of-suc-le-suc}
 use native.Mathlib.Omega.{arith}
 use lib.ListN.{length, getD}
-use Rattle.chain.specs.{allOf}
+use Rattle.lists.specs.{allOf}
 
 all-head : (t : ℕ → Bool) (q : ℕ) (l : List ℕ) → t q ≡ true → allOf t (q ∷ l) ≡ allOf t l
 unfolding allOf

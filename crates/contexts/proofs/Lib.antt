@@ -1,0 +1,3 @@
+-- The laws of the contexts for the crates above.
+pub mod Places
+pub mod Rows
