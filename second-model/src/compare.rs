@@ -353,7 +353,10 @@ mod tests {
         assert_eq!((times(&twice), twice.refusals[16]), ([2, 2, 2], 2));
         assert_eq!((tally.finished, tally.old, tally.new), (4, 0, 0));
         let report = tally.report();
-        for line in ["context, rejected             1", "no 16                         1"] {
+        for line in [
+            "context, rejected             1",
+            "no 16                         1",
+        ] {
             assert!(report.contains(line), "{report}");
         }
     }

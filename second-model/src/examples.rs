@@ -96,6 +96,8 @@ pub fn write_all(folder: &Path) -> io::Result<usize> {
 #[cfg(test)]
 mod tests {
     use super::*;
+    use crate::model::Values;
+    use crate::order::{find_order, history, Operation};
     use std::collections::HashSet;
 
     #[test]
@@ -146,6 +148,35 @@ mod tests {
         let mut seen: Vec<u8> = seen.into_iter().collect();
         seen.sort_unstable();
         assert_eq!(seen, [1, 2, 3, 5, 6, 7, 8, 9, 10, 11, 12, 13, 14, 16]);
+    }
+
+    #[test]
+    fn contexts_end_in_many_ways() {
+        let all = all();
+        let values = |e: &Example| e.last.split(' ').nth(5).map_or(0, |v| v.split(',').count());
+        assert!(all.iter().filter(|e| values(e) > 1).count() >= 40);
+        assert!(all.iter().filter(|e| values(e) == 8).count() >= 5);
+        let lines = all.iter().map(|e| e.last.len());
+        let longest = all.iter().find(|e| e.name == "longest-line").unwrap();
+        assert_eq!(lines.max(), Some(longest.last.len()));
+    }
+
+    /// The pair of values that two single reads got, put in the place of the one
+    /// that the context got, stands at no point of any order.
+    #[test]
+    fn the_single_reads_pair_stands_at_no_point() {
+        let name = "context-at-one-point-beside-single-reads-at-two";
+        let example = all().into_iter().find(|e| e.name == name).unwrap();
+        let lines = output(&example.input);
+        let mut operations = history(&example.input, &lines).unwrap();
+        assert!(find_order(&operations).is_some());
+        let value = |o: &Operation| o.finished.unwrap().values.kept()[0];
+        let pair = [value(&operations[0]), value(&operations[1])];
+        assert_eq!(pair, [0, 2]);
+        let context = operations[2].finished.as_mut().unwrap();
+        assert_eq!(context.values.kept(), [1, 0]);
+        context.values = Values::new(&pair);
+        assert_eq!(find_order(&operations), None);
     }
 
     #[test]

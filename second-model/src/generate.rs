@@ -124,7 +124,7 @@ pub fn length(kind: &str, random: &mut Random) -> usize {
         (_, 2..10) => INPUT_LONGEST,
         ("noise", _) => random.below(300),
         ("removals" | "pending-writes", 10..80) => random.within(100, 3000),
-        ("contexts" | "context-faults", 10..70) => random.within(100, 3000),
+        ("context-faults", 10..80) => random.within(100, 6000),
         (_, 10..50) => random.within(30_000, INPUT_LONGEST),
         (_, 50..75) => random.within(600, 30_000),
         _ => short,
@@ -216,9 +216,9 @@ fn damaged(random: &mut Random, length: usize) -> Vec<u8> {
     bytes
 }
 
-/// A run with reads of contexts, many of them refused. In most runs a record of
-/// tag 11 with a wrong length is put in somewhere, or the bytes are damaged in
-/// another way, most often in a record of tag 11.
+/// A run with reads of contexts, many of them refused. Into most runs a record of
+/// tag 11 with a wrong length is put somewhere; in some the bytes of a record of
+/// tag 11 are damaged.
 fn context_faults(random: &mut Random, length: usize) -> Vec<u8> {
     let mood = mood("context-faults", random, length);
     let seed = random.draw();
@@ -238,16 +238,17 @@ fn context_faults(random: &mut Random, length: usize) -> Vec<u8> {
     }
     places.push(place);
     let anywhere = random.one_of(&places);
-    let near = match contexts.as_slice() {
+    let context = match contexts.as_slice() {
         [] => anywhere,
         contexts => random.one_of(contexts),
     };
-    match random.below(10) {
-        0..5 => insert(&mut bytes, anywhere, &wrong_context(random)),
-        5 => spoil_length(&mut bytes, near, random),
-        6 => bytes.truncate(near + random.below(20)),
-        7 => {
-            if let Some(byte) = bytes.get_mut(near + random.below(20)) {
+    let inside = context + random.below(20);
+    match random.below(40) {
+        0..32 => insert(&mut bytes, anywhere, &wrong_context(random)),
+        32..34 => spoil_length(&mut bytes, context, random),
+        34..36 => bytes.truncate(inside),
+        36..38 => {
+            if let Some(byte) = bytes.get_mut(inside) {
                 *byte ^= 1 << random.below(8);
             }
         }
@@ -261,14 +262,17 @@ fn context_faults(random: &mut Random, length: usize) -> Vec<u8> {
 fn wrong_context(random: &mut Random) -> Vec<u8> {
     let near = random.one_of(&[0, 1, 2, 3, 5, 7, 9, 11, 13, 15, 17, 18, 19, 20]);
     let far = random.one_of(&[24, 32, 255, 256, 260, 272, 1024, 1040, 4096, 65_535]);
-    let length = random.one_of(&[near, near, near, far]);
+    let length = match random.below(6) {
+        0 => far,
+        _ => near,
+    };
     let [high, low] = (length as u16).to_be_bytes();
     let mut bytes = vec![11, high, low];
-    let content = match random.below(4) {
+    let content = match random.below(8) {
         0 => random.below(length + 1),
         _ => length,
     };
-    for place in 0..content.min(300) {
+    for place in 0..content {
         let byte = random.below(256) as u8;
         bytes.push(if place % 2 == 0 { byte % 4 } else { byte });
     }
@@ -365,13 +369,15 @@ mod tests {
 
     #[test]
     fn small_files_begin_few_operations() {
-        for (kind, seed) in SMALL.into_iter().flat_map(|k| (0..50).map(move |s| (k, s))) {
-            let file = generate(kind, seed, 600).unwrap();
-            let begins = pieces(&file)
-                .iter()
-                .filter(|p| matches!(p[0], 1 | 2 | 11))
-                .count();
-            assert!(begins <= 8, "{kind}: {begins}");
+        for (kind, most) in SMALL.into_iter().zip([8, 12]) {
+            for seed in 0..50 {
+                let file = generate(kind, seed, 600).unwrap();
+                let begins = pieces(&file)
+                    .iter()
+                    .filter(|p| matches!(p[0], 1 | 2 | 11))
+                    .count();
+                assert!(begins <= most, "{kind}: {begins}");
+            }
         }
     }
 
@@ -387,6 +393,6 @@ mod tests {
                 }
             }
         }
-        assert_eq!(sum, 0);
+        assert_eq!(sum, 15_296_580_026_681_900_764);
     }
 }

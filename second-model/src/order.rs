@@ -182,8 +182,7 @@ impl Search<'_> {
     /// Does a read of these objects that ended so have the age of one that comes
     /// next in the order? Only a read of one object is old or new.
     fn age_fits(&self, objects: Objects, end: End) -> bool {
-        let round =
-            |o: &Operation| o.written.is_some() && o.objects == objects && o.begun < end.at;
+        let round = |o: &Operation| o.written.is_some() && o.objects == objects && o.begun < end.at;
         match end.age {
             Age::None => true,
             Age::Old => self.left().any(|(_, o)| round(o)),

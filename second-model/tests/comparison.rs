@@ -1,8 +1,11 @@
 //! `compare` agrees with this model's own program, and can fail.
 
+use second_model::compare::printed;
+use second_model::generate::generate;
+use second_model::order::{find_order, history};
 use second_model::run::output;
 use std::fs;
-use std::path::PathBuf;
+use std::path::{Path, PathBuf};
 use std::process::{Command, Output};
 
 fn compare(program: &str, more: &[&str]) -> Output {
@@ -22,8 +25,16 @@ fn no_difference_with_itself() {
     let text = text(&run);
     assert_eq!(run.status.code(), Some(0), "{text}");
     assert!(text.starts_with("seed 5\n"));
-    for word in ["\nold  ", "\nnew  "] {
-        let (_, after) = text.split_once(word).unwrap();
+    let answers = [
+        "old",
+        "new",
+        "context, direct",
+        "context, tail",
+        "context, rejected",
+        "no 16",
+    ];
+    for word in answers {
+        let (_, after) = text.split_once(&format!("\n{word}  ")).unwrap();
         let times = after.lines().next().unwrap().trim();
         assert_ne!(times, "0", "{word}");
     }
@@ -76,6 +87,38 @@ fn a_wrong_last_field_is_found_and_the_file_shortened() {
     // stay as they are, so that packets before them must be left too.
     let length = kept.short.len();
     assert!((42..1000).contains(&length), "{length} bytes");
+}
+
+/// A direct read of several objects that is answered where it should be sent on:
+/// it finishes with values joined by commas where it should not finish.
+#[test]
+fn a_wrong_context_is_found_and_the_file_shortened() {
+    let kept = difference(env!("CARGO_BIN_EXE_wrong-context-run"), "wrong-context");
+    let last = |lines: &str| lines.lines().last().unwrap().to_string();
+    let (ours, theirs) = (last(&kept.ours), last(&kept.theirs));
+    assert!(ours.ends_with(" - - -"), "{ours}");
+    let values = theirs.split(' ').nth(5).unwrap();
+    assert!(values.contains(','), "{theirs}");
+    // A start, two writes, a read of two objects and nine deliveries have 83
+    // bytes, with one replica at the least to advance.
+    let length = kept.short.len();
+    assert!((83..1000).contains(&length), "{length} bytes");
+}
+
+/// The wrong program's small runs do not all have an order; this model's have.
+#[test]
+fn a_wrong_context_leaves_a_small_run_without_an_order() {
+    let folder = PathBuf::from(env!("CARGO_TARGET_TMPDIR"));
+    let path = folder.join("small-contexts.records");
+    let program = Path::new(env!("CARGO_BIN_EXE_wrong-context-run"));
+    let mut without = 0;
+    for seed in 0..400 {
+        let input = generate("small-contexts", seed, 500).unwrap();
+        let found = |lines: &[u8]| find_order(&history(&input, lines).unwrap()).is_some();
+        assert!(found(&output(&input)), "seed {seed}");
+        without += usize::from(!found(&printed(program, &input, &path).unwrap()));
+    }
+    assert!(without >= 5, "{without}");
 }
 
 #[test]

@@ -1,11 +1,16 @@
-//! The random files reach every rule of document 01 and each way it drops, and
-//! reads of every age in many situations (document 02, Req 01).
+//! The random files reach every rule of document 01 and each way it drops, reads
+//! of every age in many situations (document 02, Req 01), and reads of contexts
+//! in as many (Req 02).
 
 #[path = "coverage/ages.rs"]
 mod ages;
+#[path = "coverage/contexts.rs"]
+mod contexts;
 
 use ages::Ages;
+use contexts::Contexts;
 use second_model::compare::{file, Tally, Task};
+use second_model::generate::KINDS;
 use second_model::model::{Answer, Model, Packet, Refusal, Stamp, Step, FULL};
 use second_model::records::{Reader, Record};
 use second_model::run::INPUT_LONGEST;
@@ -16,7 +21,7 @@ use std::path::PathBuf;
 const RARE: (&str, usize) = ("begin: 64 open and 64 waiting", 10);
 
 /// Every other event of document 01 that must occur, and how often at the
-/// least.
+/// least; reads are those of one object.
 const LEAST: usize = 100;
 const WANTED: [&str; 30] = [
     "unstamped write: stamped",
@@ -66,7 +71,7 @@ fn comparison() -> Task {
 }
 
 #[test]
-fn every_rule_and_every_age_is_reached() {
+fn every_rule_every_age_and_every_context_is_reached() {
     let task = comparison();
     let mut seen = Seen::new();
     for index in 0..task.files {
@@ -74,7 +79,8 @@ fn every_rule_and_every_age_is_reached() {
     }
     let rules = WANTED.into_iter().map(|event| (event, LEAST));
     let mut seldom = String::new();
-    for (event, least) in rules.chain([RARE]).chain(ages::WANTED) {
+    let ages = ages::WANTED.into_iter().chain(contexts::WANTED);
+    for (event, least) in rules.chain([RARE]).chain(ages) {
         let times = seen.get(event).copied().unwrap_or(0);
         println!("{event:<42} {times:>9}");
         if times < least {
@@ -99,6 +105,81 @@ fn small_runs_have_reads_of_every_age() {
     assert!(tally.finished >= 2 * (tally.old + tally.new));
 }
 
+#[test]
+fn small_runs_have_contexts_of_every_way() {
+    let task = comparison();
+    let mut tally = Tally::default();
+    for index in task.files..task.files + task.small {
+        tally.count(&file(&task, index).1);
+    }
+    for ((name, times), least) in tally.contexts.rows().into_iter().zip([200, 200, 40]) {
+        assert!(times >= least, "{name}: {times}");
+    }
+}
+
+/// What ends a run or refuses a context in one file, by places and lengths.
+#[derive(Default)]
+struct Faults {
+    lengths: BTreeMap<usize, usize>,
+    cut: usize,
+    above: BTreeMap<(usize, usize), usize>,
+    twice: BTreeMap<(usize, usize), usize>,
+}
+
+/// Every wrong length of tag 11 up to 20 and some far above it end a run; some
+/// are cut short. Of eight objects each is above 1,023 alone, and each two are
+/// the only two of a name.
+#[test]
+fn every_fault_of_a_context_is_reached() {
+    let task = comparison();
+    let mut faults = Faults::default();
+    for index in 0..task.files {
+        if KINDS[index % KINDS.len()].0 == "context-faults" {
+            look_for_faults(&file(&task, index).1, &mut faults);
+        }
+    }
+    println!("lengths {:?}, cut {}", faults.lengths, faults.cut);
+    println!("above {:?}\ntwice {:?}", faults.above, faults.twice);
+    let right = [4, 6, 8, 10, 12, 14, 16];
+    for length in (0..=20).filter(|length| !right.contains(length)) {
+        assert!(faults.lengths.contains_key(&length), "length {length}");
+    }
+    assert!(faults.lengths.range(21..).count() >= 3);
+    assert!(faults.cut >= 5, "cut {}", faults.cut);
+    assert_eq!((faults.above.len(), faults.twice.len()), (8, 28));
+}
+
+fn look_for_faults(file: &[u8], faults: &mut Faults) {
+    if file.len() > INPUT_LONGEST {
+        return;
+    }
+    for (place, record) in Reader::new(file).enumerate() {
+        match record {
+            Ok(Record::Step(Step::Context { objects })) if objects.count() == 8 => {
+                count_places(objects.kept(), faults);
+            }
+            Ok(_) => {}
+            Err(_) => match contexts::fault(file, place) {
+                Some((length, true)) => *faults.lengths.entry(length).or_default() += 1,
+                Some((_, false)) => faults.cut += 1,
+                None => {}
+            },
+        }
+    }
+}
+
+/// The place of the only object above 1,023, or of the only two of a name.
+fn count_places(objects: &[u16], faults: &mut Faults) {
+    let pairs = (0..8).flat_map(|a| (a + 1..8).map(move |b| (a, b)));
+    let twice: Vec<_> = pairs.filter(|&(a, b)| objects[a] == objects[b]).collect();
+    let above: Vec<_> = (0..8).filter(|&a| objects[a] > 1023).collect();
+    match (above.as_slice(), twice.as_slice()) {
+        (&[place], []) => *faults.above.entry((place, place)).or_default() += 1,
+        ([], &[pair]) => *faults.twice.entry(pair).or_default() += 1,
+        _ => {}
+    }
+}
+
 /// Runs a file and counts its events; one that is too long is not run.
 fn watch(file: &[u8], seen: &mut Seen) {
     if file.len() > INPUT_LONGEST {
@@ -112,20 +193,24 @@ fn watch(file: &[u8], seen: &mut Seen) {
         return;
     };
     let mut ages = Ages::default();
+    let mut contexts = Contexts::default();
     for record in reader {
         let Ok(Record::Step(step)) = record else {
             return;
         };
         let early = before(&model, step);
         let mut events = ages.before(&model, step);
+        events.extend(contexts.before(&model, step));
         let waiting = model.waiting();
         let answer = model.step(step);
         let late = match early {
             Some("unstamped write: permitted" | "read") => at_switch(&model, waiting),
+            Some("context") => contexts::sent(&model),
             _ => refused(&model, step, answer),
         };
         events.extend(early.into_iter().chain(late));
         events.extend(ages.after(&model, answer));
+        events.extend(contexts.after(&model, step, answer));
         for event in events {
             *seen.entry(event).or_default() += 1;
         }
@@ -137,7 +222,7 @@ fn before(model: &Model, step: Step) -> Option<&'static str> {
     match step {
         Step::Deliver { position, .. } => {
             let packet = *model.packets().get(usize::from(position))?;
-            Some(delivery(model, packet))
+            delivery(model, packet)
         }
         Step::Advance { replica } if model.incoming(replica).len() > 0 => {
             let tail = model.live().last() == Some(replica);
@@ -155,29 +240,30 @@ fn before(model: &Model, step: Step) -> Option<&'static str> {
     }
 }
 
-fn delivery(model: &Model, packet: Packet) -> &'static str {
+/// A packet about to be delivered; the rest about a context is told elsewhere.
+fn delivery(model: &Model, packet: Packet) -> Option<&'static str> {
     let now = model.switch_number();
-    match packet {
+    Some(match packet {
         Packet::UnstampedWrite { .. } => {
             match model.live().all(|r| model.permits(r) == Some(now)) {
                 true => "unstamped write: permitted",
                 false => "unstamped write: no permit",
             }
         }
+        Packet::Read { objects, .. } if objects.is_context() => "context",
         Packet::Read { .. } => "read",
         Packet::StampedWrite { to, write } => stamped(model, to, write.stamp),
         Packet::DirectRead {
             to,
-            object,
+            objects,
             switch,
             committed,
             ..
-        } => match model.held(to, object) {
-            None => "direct read: gone",
-            Some(_) if model.permits(to) != Some(switch) => "direct read: other switch",
-            Some(held) if held.stamp > committed => "direct read: stamp above",
-            Some(_) => "direct read: answered",
+        } => match objects.kept() {
+            &[object] => direct(model, to, object, switch, committed),
+            _ => return None,
         },
+        Packet::NormalRead { objects, .. } if objects.is_context() => return None,
         Packet::NormalRead { to, .. } => match model.permits(to) {
             None => "normal read: gone",
             Some(_) => "normal read: answered",
@@ -186,8 +272,19 @@ fn delivery(model: &Model, packet: Packet) -> &'static str {
             "completion: older switch"
         }
         Packet::Completion { .. } => "completion: present switch",
+        Packet::Reply { values, .. } if values.count() > 1 => return None,
         Packet::Reply { operation, .. } if model.is_open(operation) => "reply: finishes",
         Packet::Reply { .. } => "reply: ignored",
+    })
+}
+
+/// A direct read of one object.
+fn direct(model: &Model, to: u8, object: u16, switch: u16, committed: Stamp) -> &'static str {
+    match model.held(to, object) {
+        None => "direct read: gone",
+        Some(_) if model.permits(to) != Some(switch) => "direct read: other switch",
+        Some(held) if held.stamp > committed => "direct read: stamp above",
+        Some(_) => "direct read: answered",
     }
 }
 

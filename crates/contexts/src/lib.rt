@@ -4,9 +4,9 @@ ghost use Prim.Native.Nat.{_≤_, _<_};
 ghost use Rattle.lists.specs.{indexOf};
 ghost use Rattle.contexts.specs.{contextOf, placeOf, sizeOf, numbersOf, keptAt, isCount, isObject, areObjects, areDifferent, isContext, emptyAt, isNaming};
 ghost use Rattle.contexts.specs.{rowCell, sizeAt, numberAt, contextAt, freeRow, holding, freeing};
-use limits::CONTEXTS;
 use limits::CONTEXT_LEAST;
 use limits::CONTEXT_MOST;
+use limits::CONTEXTS;
 use limits::OBJECTS;
 use operations::CELLS;
 
@@ -76,7 +76,11 @@ pub fn kept(n: u32, i: u32, x: u32) -> u32
 pub fn is_count(n: u32) -> bool
     ensures { λ r. ⌜ r ≡ isCount n ⌝ }
 {
-    if CONTEXT_LEAST <= n { n <= CONTEXT_MOST } else { false }
+    if CONTEXT_LEAST <= n {
+        n <= CONTEXT_MOST
+    } else {
+        false
+    }
 }
 
 fn is_object(x: u32) -> bool
@@ -133,7 +137,11 @@ pub fn are_different(v: Context) -> bool
 pub fn is_context(v: Context) -> bool
     ensures { λ r. ⌜ r ≡ isContext v ⌝ }
 {
-    if is_count(v.count) { are_objects(v) } else { false }
+    if is_count(v.count) {
+        are_objects(v)
+    } else {
+        false
+    }
 }
 
 // ---- the objects that a step names

@@ -7,6 +7,8 @@ use lib.ListN.{length}
 use borrow.Author.Tests.{leb-false, ltb-false}
 use Rattle.limits.specs as limits
 use Rattle.operations.specs.{isOpen}
+use Rattle.contexts.specs.declared.Context.{Context}
+use Rattle.contexts.specs.{isCount, isContext, contextAt}
 use Rattle.chain.specs.{isLive, tailOf, allPermit}
 use Rattle.replicas.specs.Replicas.{accepts, answersDirect}
 use Rattle.switch.specs.Numbers.{numberIn, directIn}
@@ -14,13 +16,14 @@ use Rattle.switch.specs.DirtySet.{lookedUp, marked, stampFor}
 use Rattle.waiting.specs.Waiting.{held, lookAt}
 use Rattle.waiting.specs.declared.Packet.{Packet}
 use Rattle.protocol.specs.declared.Answer.{Answer}
-use Rattle.protocol.specs.declared.Answer.the-variants.{Done, Finished, Refused}
+use Rattle.protocol.specs.declared.Answer.the-variants.{Done, Finished, FinishedContext, Refused}
 use Rattle.protocol.specs.declared.Message.{Message}
-use Rattle.protocol.specs.declared.Message.the-variants.{UnstampedWrite, SwitchRead, StampedWrite, DirectRead, NormalRead, Completion, Reply, Unknown}
+use Rattle.protocol.specs.declared.Message.the-variants.{UnstampedWrite, SwitchRead, StampedWrite, DirectRead, NormalRead, Completion, Reply, ContextRead, DirectContext, NormalContext, ContextReply, Unknown}
 use Rattle.protocol.specs.declared.Decision.{Decision}
 use Rattle.protocol.specs.declared.Step.the-variants.{Deliver}
 use Rattle.protocol.specs.Messages.{messageOf}
 use Rattle.protocol.specs.Decisions.{Given, Outcome, Switched, Stored, Opened, switched, keeping, changingSwitch, changingStore, changingOpens, refusing, dropping, passing, overfull}
+use Rattle.protocol.specs.Contexts.{leaving, droppingRow, goesDirectly, contextRead, answersContext, answeringContext, directContext, normalContext, contextReply}
 use Rattle.protocol.specs.Delivery.{stamping, unstampedWrite, switchRead, stampedWrite, directRead, normalRead, completion, reply, deliveredMessage}
 use Rattle.protocol.specs.Steps.{Machine, givenBy, outcomeOf, positionOf, isMalformed, delivered, decided, decidedIn, answerTo, after}
 
@@ -38,6 +41,7 @@ both P b p q = by-test P b (λ e. p) (λ e. q)
 abbrev Replies : Given → Message → Outcome → Answer → Type 0
 Replies g q u Done = Unit {0}
 Replies g q u (Finished o v f) = (isOpen (g .opens) o ≡ true) × (u .store ≡ g .store) × (c : ℕ) × (q ≡ Reply o v c f)
+Replies g q u (FinishedContext o v) = (isOpen (g .opens) o ≡ true) × (u .store ≡ g .store) × (r : ℕ) × (q ≡ ContextReply o r)
 Replies g q u (Refused r) = Unit {0}
 
 module _ (g : Given) (at choice : ℕ) where
@@ -45,7 +49,7 @@ module _ (g : Given) (at choice : ℕ) where
   Ends q u = Replies g q u (u .decision .answer)
 
   message-replies : (q : Message) → Ends q (deliveredMessage g at choice q)
-  unfolding deliveredMessage stamping unstampedWrite switchRead stampedWrite directRead normalRead completion reply refusing dropping passing
+  unfolding deliveredMessage stamping unstampedWrite switchRead stampedWrite directRead normalRead completion reply contextRead directContext normalContext contextReply droppingRow answeringContext refusing dropping passing
   message-replies (UnstampedWrite o x v) =
       let P : Switched → Type 0 = λ u. Ends (UnstampedWrite o x v) (changingSwitch g u) in
       both P (allPermit (g .store) (numberIn (g .switch)))
@@ -63,6 +67,19 @@ module _ (g : Given) (at choice : ℕ) where
   message-replies (Completion x t) = tt
   message-replies (Reply o v t f) =
       by-test (λ (u : Opened). Ends (Reply o v t f) (changingOpens g u)) (isOpen (g .opens) o) (λ still. (still, refl, t, refl)) (λ shut. tt)
+  message-replies (ContextRead o r) =
+      let P : Opened → Type 0 = λ u. Ends (ContextRead o r) (changingOpens g u) in
+      both P (isContext (contextAt (g .opens) r)) (both P (goesDirectly (g .switch) (contextAt (g .opens) r)) tt tt) tt
+  message-replies (DirectContext q number t o r) =
+      let P : Opened → Type 0 = λ u. Ends (DirectContext q number t o r) (changingOpens g u) in
+      both P (isLive (g .store) q)
+      (both P (isContext (contextAt (g .opens) r)) (both P (answersContext (g .store) q number t (contextAt (g .opens) r)) tt tt) tt) tt
+  message-replies (NormalContext q o r) =
+      let P : Opened → Type 0 = λ u. Ends (NormalContext q o r) (changingOpens g u) in
+      both P (isLive (g .store) q) (both P (isContext (contextAt (g .opens) r)) tt tt) tt
+  message-replies (ContextReply o r) =
+      let P : Opened → Type 0 = λ u. Ends (ContextReply o r) (changingOpens g u) in
+      by-test P (isOpen (g .opens) o) (λ still. both P (isCount (contextAt (g .opens) r .count)) (still, refl, r, refl) tt) (λ shut. tt)
   message-replies Unknown = tt
 
 -- ---- a step
@@ -85,15 +102,18 @@ module _ (m : Machine) (at choice : ℕ) where
   Finishes u Done = Unit {0}
   Finishes u (Finished o v f) =
       (limits.waiting ≤ length (m .waiting .packets)) × (at < held (m .waiting)) × Replies (givenBy m) (messageOf packet) u (Finished o v f)
+  Finishes u (FinishedContext o v) =
+      (limits.waiting ≤ length (m .waiting .packets)) × (at < held (m .waiting)) × Replies (givenBy m) (messageOf packet) u (FinishedContext o v)
   Finishes u (Refused r) = Unit {0}
 
   placed : limits.waiting ≤ length (m .waiting .packets) → at < held (m .waiting) → (u : Outcome) (a : Answer) → Replies (givenBy m) (messageOf packet) u a → Finishes u a
   placed wide inside u Done p = tt
   placed wide inside u (Finished o v f) p = (wide, inside, p)
+  placed wide inside u (FinishedContext o v) p = (wide, inside, p)
   placed wide inside u (Refused r) p = tt
 
   delivery-finishes : Finishes (outcomeOf m (Deliver at choice)) (outcomeOf m (Deliver at choice) .decision .answer)
-  unfolding decidedIn isMalformed positionOf decided delivered refusing dropping
+  unfolding decidedIn isMalformed positionOf decided delivered leaving refusing dropping
   delivery-finishes =
       let P : Outcome → Type 0 = λ u. Finishes u (u .decision .answer) in
       by-test P (ltb (length (m .waiting .packets)) limits.waiting) (λ short. tt)
@@ -107,3 +127,9 @@ module _ (m : Machine) (at choice : ℕ) where
   finished-by-reply o v f e =
       let (wide, inside, (still, stays, c, replied)) = subst (Finishes (outcomeOf m (Deliver at choice))) e delivery-finishes in
       record { wide = wide; inside = inside; is-open = still; stays = stays; carried = c; replied = replied }
+
+  -- so for a read of a whole context
+  pub context-by-reply : (o : ℕ) (v : Context) → answerTo m (Deliver at choice) ≡ FinishedContext o v → (isOpen (m .opens) o ≡ true) × (after m (Deliver at choice) .store ≡ m .store)
+  unfolding answerTo after
+  context-by-reply o v e =
+      let (wide, inside, (still, stays, r, replied)) = subst (Finishes (outcomeOf m (Deliver at choice))) e delivery-finishes in (still, stays)

@@ -18,16 +18,16 @@ use Rattle.switch.specs.DirtySet.{freeSlot, slotFor, markAbove, lookedUp, nextS
 use Rattle.waiting.specs.declared.Packet.{Packet}
 use Rattle.waiting.specs.Waiting.{WaitingList, waitingList, heldIn, held, blank, noneWait, lookAt, takesOut, leftBy, fits, afterTaking, adding, edited}
 use Rattle.protocol.specs.declared.Answer.{Answer}
-use Rattle.protocol.specs.declared.Answer.the-variants.{Done, Finished, Refused}
+use Rattle.protocol.specs.declared.Answer.the-variants.{Done, Finished, FinishedContext, Refused}
 use Rattle.protocol.specs.declared.Message.{Message}
 use Rattle.protocol.specs.declared.Message.the-variants.{UnstampedWrite, StampedWrite, NormalRead, Reply}
 use Rattle.protocol.specs.declared.Decision.{Decision}
 use Rattle.protocol.specs.declared.Step.the-variants.{BeginRead, BeginWrite, Deliver, Repeat}
 use Rattle.protocol.specs.Answers.{refusalNumber, noFreshness}
-use Rattle.protocol.specs.Messages.{packetOf, messageOf, isUnstamped}
+use Rattle.protocol.specs.Messages.{packetOf, messageOf, isUnstamped, isOfContext}
 use Rattle.protocol.specs.Decisions.{refusing, passing, overfull}
 use Rattle.protocol.specs.Delivery.{directRead, stampedWrite, deliveredMessage}
-use Rattle.protocol.specs.Steps.{Machine, machine, startRefused, startAnswer, beginOperation, delivered, repeated, positionOf, isMalformed, decided, decidedIn, answerTo, after}
+use Rattle.protocol.specs.Steps.{Machine, machine, startRefused, startAnswer, beginOperation, delivered, copied, repeated, positionOf, isMalformed, decided, decidedIn, answerTo, after}
 
 -- a point of document 01: its number, and tests that must all pass
 pub record Point : Type 0 where
@@ -54,6 +54,7 @@ allHold n last (p ∷ l) = cond (eqb (p .number) n) (cond (allTrue (p .tests)) (
 gives : Answer → ℕ → Bool
 gives Done n = eqb 0 n
 gives (Finished o v f) n = eqb 0 n
+gives (FinishedContext o v) n = eqb 0 n
 gives (Refused r) n = eqb (refusalNumber r) n
 
 -- a machine with a lone replica, nothing written, no operation open, and these packets waiting
@@ -146,5 +147,5 @@ points =
 
 -- the definitions compute every row, and no row is missing
 pub points-hold : allHold 1 11 points ≡ true
-unfolding points allHold allTrue gives lone copies emptyList markedAll switchOfP4 switchOfP7 storeOfP6 readOfP6 sends writeOfP10 storeOfP11 stampOf numberOf counterOf isAbove largerOf noneOpen openCount lastGiven roomToOpen indexOf listOf moves entryCell valueCell stampCell storeCells liveCount orderAt members rowOf highestOf permittedBy appliedBy valueAt stampAt logged tabled raised chainPlace isLive memberAt headOf tailOf chosenBy removed emptyCells numbered emptyStore linkedWrites accepts nextPosition applying taking answersDirect numberIn counterIn committedIn slotObject slotStamp firstSlot secondSlot thirdSlot holdsObject countsAbove isFree holdsAbove freeSlot slotFor markAbove lookedUp nextStamp marking canMark marked isCompleted clearedAt completed newSwitch countedTo countedMarks heldIn noneWait lookAt takesOut leftBy fits afterTaking adding edited packetOf messageOf isUnstamped refusing passing overfull directRead stampedWrite deliveredMessage startRefused startAnswer beginOperation delivered repeated positionOf isMalformed decided decidedIn answerTo after
+unfolding points allHold allTrue gives lone copies emptyList markedAll switchOfP4 switchOfP7 storeOfP6 readOfP6 sends writeOfP10 storeOfP11 stampOf numberOf counterOf isAbove largerOf noneOpen openCount lastGiven roomToOpen indexOf listOf moves entryCell valueCell stampCell storeCells liveCount orderAt members rowOf highestOf permittedBy appliedBy valueAt stampAt logged tabled raised chainPlace isLive memberAt headOf tailOf chosenBy removed emptyCells numbered emptyStore linkedWrites accepts nextPosition applying taking answersDirect numberIn counterIn committedIn slotObject slotStamp firstSlot secondSlot thirdSlot holdsObject countsAbove isFree holdsAbove freeSlot slotFor markAbove lookedUp nextStamp marking canMark marked isCompleted clearedAt completed newSwitch countedTo countedMarks heldIn noneWait lookAt takesOut leftBy fits afterTaking adding edited packetOf messageOf isUnstamped isOfContext refusing passing overfull directRead stampedWrite deliveredMessage startRefused startAnswer beginOperation delivered copied repeated positionOf isMalformed decided decidedIn answerTo after
 points-hold = refl

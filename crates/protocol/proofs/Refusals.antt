@@ -10,6 +10,9 @@ use lib.ListN.{length}
 use borrow.Author.Tests.{eqb-true, eqb-false, leb-true, ltb-false, ne-eqb, le-ltb}
 use Rattle.limits.specs as limits
 use Rattle.operations.specs.{isOpen, lastGiven, roomToOpen}
+use Rattle.contexts.specs.declared.Context.{Context}
+use Rattle.contexts.specs.declared.Objects.{Objects}
+use Rattle.contexts.specs.{contextOf, areObjects, areDifferent, isCount, isContext, contextAt, freeRow}
 use Rattle.store.specs.{liveCount}
 use Rattle.chain.specs.{isLive, tailOf, allPermit}
 use Rattle.replicas.specs.Replicas.{accepts, pending, answersDirect}
@@ -21,41 +24,44 @@ use Rattle.waiting.specs.declared.Packet.{Packet}
 use Rattle.protocol.specs.declared.Refusal.{Refusal}
 use Rattle.protocol.specs.declared.Refusal.the-variants.{Format, Replicas}
 use Rattle.protocol.specs.declared.Answer.{Answer}
-use Rattle.protocol.specs.declared.Answer.the-variants.{Done, Finished, Refused}
+use Rattle.protocol.specs.declared.Answer.the-variants.{Done, Finished, FinishedContext, Refused}
 use Rattle.protocol.specs.declared.Message.{Message}
-use Rattle.protocol.specs.declared.Message.the-variants.{UnstampedWrite, SwitchRead, StampedWrite, DirectRead, NormalRead, Completion, Reply, Unknown}
+use Rattle.protocol.specs.declared.Message.the-variants.{UnstampedWrite, SwitchRead, StampedWrite, DirectRead, NormalRead, Completion, Reply, ContextRead, DirectContext, NormalContext, ContextReply, Unknown}
 use Rattle.protocol.specs.declared.Decision.{Decision}
 use Rattle.protocol.specs.declared.Step.{Step}
-use Rattle.protocol.specs.declared.Step.the-variants.{Start, BeginRead, BeginWrite, Deliver, Lose, Repeat, Advance, Replace, Tell, Remove, GiveUp}
+use Rattle.protocol.specs.declared.Step.the-variants.{Start, BeginRead, BeginWrite, Deliver, Lose, Repeat, Advance, Replace, Tell, Remove, GiveUp, BeginContext}
 use Rattle.protocol.specs.Answers.{refusalNumber}
-use Rattle.protocol.specs.Messages.{messageOf, isUnstamped}
+use Rattle.protocol.specs.Messages.{messageOf, isUnstamped, isOfContext}
+use Rattle.protocol.specs.Contexts.{leaving, droppingRow, goesDirectly, contextRead, answersContext, answeringContext, directContext, normalContext, contextReply}
 use Rattle.protocol.specs.Decisions.{Given, Outcome, Switched, Stored, Opened, keeping, changingSwitch, changingStore, changingOpens, noEdit, refusing, dropping, passing, overfull}
 use Rattle.protocol.specs.Delivery.{stamping, unstampedWrite, switchRead, stampedWrite, directRead, normalRead, completion, reply, deliveredMessage}
-use Rattle.protocol.specs.Steps.{Machine, machine, givenBy, outcomeOf, positionOf, isMalformed, decided, decidedIn, beginOperation, delivered, lost, repeated, advancing, replacing, telling, removing, givingUp}
+use Rattle.protocol.specs.Steps.{Machine, machine, givenBy, outcomeOf, positionOf, isMalformed, decided, decidedIn, beginOperation, beginContext, delivered, lost, copied, repeated, advancing, replacing, telling, removing, givingUp}
 use Rattle.protocol.specs.Steps.{answerTo, after, startRefused, startAnswer, started, startSwitch, startStore, startOpens, startWaiting, afterStart}
 
 -- the step is a delivery
 abbrev pub IsDeliver : Step → Type 0
 IsDeliver x = (at : ℕ) × (choice : ℕ) × (x ≡ Deliver at choice)
 
--- what a step can answer: done, an operation finished, or a refusal with number 1, 3 to 13 or 15
+-- what a step can answer: done, an operation finished, or a refusal with number 1, 3 to 13, 15 or 16
 abbrev pub StepNumber : ℕ → Type 0
-StepNumber n = (n ≡ 1) ⊎ ((3 ≤ n) × (n ≤ 13)) ⊎ (n ≡ 15)
+StepNumber n = (n ≡ 1) ⊎ ((3 ≤ n) × (n ≤ 13)) ⊎ ((15 ≤ n) × (n ≤ 16))
 
 abbrev pub StepAnswer : Answer → Type 0
 StepAnswer a = (a ≡ Done)
     ⊎ ((o : ℕ) × (v : ℕ) × (f : ℕ) × (a ≡ Finished o v f))
+    ⊎ ((o : ℕ) × (v : Context) × (a ≡ FinishedContext o v))
     ⊎ ((r : Refusal) × (a ≡ Refused r) × StepNumber (refusalNumber r))
 
 -- the numbers of a step's refusals, as a test
 abbrev isStepNumber : ℕ → Bool
-isStepNumber n = cond (eqb n 1) true (cond (eqb n 15) true (cond (leb 3 n) (leb n 13) false))
+isStepNumber n = cond (eqb n 1) true (cond (eqb n 15) true (cond (eqb n 16) true (cond (leb 3 n) (leb n 13) false)))
 
 -- what holds of the outcome of a step, by its answer: only a delivery finishes an operation; a refusal has one of those numbers, and leaves all as it
 -- was given
 abbrev SoundAnswer : Given → Step → Outcome → Answer → Type 0
 SoundAnswer g x u Done = Unit {0}
 SoundAnswer g x u (Finished o v f) = IsDeliver x
+SoundAnswer g x u (FinishedContext o v) = IsDeliver x
 SoundAnswer g x u (Refused r) = when (isStepNumber (refusalNumber r)) (u ≡ keeping g (refusing r))
 
 -- an outcome of which that holds
@@ -89,6 +95,17 @@ module _ (g : Given) (x : Step) where
       (by-test (OfOpened g x) (leb limits.lastOperation (lastGiven (g .opens))) refl
       (by-test (OfOpened g x) (roomToOpen (g .opens)) (by-test (OfOpened g x) (overfull (g .held) 0 1) refl tt) refl))
 
+  context-sound : (y : Objects) → OfOpened g x (beginContext (g .opens) (g .held) y)
+  unfolding beginContext refusing
+  context-sound y =
+      by-test (OfOpened g x) (areObjects (contextOf y))
+      (by-test (OfOpened g x) (areDifferent (contextOf y))
+      (by-test (OfOpened g x) (leb limits.lastOperation (lastGiven (g .opens))) refl
+      (by-test (OfOpened g x) (roomToOpen (g .opens))
+      (by-test (OfOpened g x) (overfull (g .held) 0 1) refl (by-test (OfOpened g x) (ltb (freeRow (g .opens)) limits.contexts) tt refl)) refl))
+      refl)
+      refl
+
   -- a write with its stamp, whatever the switch then is
   stamp-sound : (w : List ℕ) (at o y v stamp : ℕ) → OfSwitched g x (record { decision = stamping (g .store) at o y v stamp; switch = w })
   unfolding stamping dropping passing
@@ -96,7 +113,7 @@ module _ (g : Given) (x : Step) where
 
   -- what delivery of a message does, in a step that delivers
   deliver-sound : (at choice : ℕ) → IsDeliver x → (q : Message) → Sound g x (deliveredMessage g at choice q)
-  unfolding deliveredMessage unstampedWrite switchRead stampedWrite directRead normalRead completion reply refusing dropping passing
+  unfolding deliveredMessage unstampedWrite switchRead stampedWrite directRead normalRead completion reply contextRead directContext normalContext contextReply droppingRow answeringContext refusing dropping passing
   deliver-sound at choice d (UnstampedWrite o y v) =
       by-test (OfSwitched g x) (allPermit (g .store) (numberIn (g .switch))) (stamp-sound _ at o y v (stampFor (g .switch) y)) tt
   deliver-sound at choice d (SwitchRead o y) =
@@ -109,11 +126,20 @@ module _ (g : Given) (x : Step) where
   deliver-sound at choice d (NormalRead r o y t) = by-test (OfDecision g x) (isLive (g .store) r) tt tt
   deliver-sound at choice d (Completion y t) = tt
   deliver-sound at choice d (Reply o v t f) = by-test (OfOpened g x) (isOpen (g .opens) o) d tt
+  deliver-sound at choice d (ContextRead o r) =
+      by-test (OfOpened g x) (isContext (contextAt (g .opens) r)) (by-test (OfOpened g x) (goesDirectly (g .switch) (contextAt (g .opens) r)) tt tt) tt
+  deliver-sound at choice d (DirectContext q number t o r) =
+      by-test (OfOpened g x) (isLive (g .store) q)
+      (by-test (OfOpened g x) (isContext (contextAt (g .opens) r)) (by-test (OfOpened g x) (answersContext (g .store) q number t (contextAt (g .opens) r)) tt tt) tt) tt
+  deliver-sound at choice d (NormalContext q o r) =
+      by-test (OfOpened g x) (isLive (g .store) q) (by-test (OfOpened g x) (isContext (contextAt (g .opens) r)) tt tt) tt
+  deliver-sound at choice d (ContextReply o r) =
+      by-test (OfOpened g x) (isOpen (g .opens) o) (by-test (OfOpened g x) (isCount (contextAt (g .opens) r .count)) d tt) tt
   deliver-sound at choice d Unknown = tt
 
 -- every step, whatever packet stands at its position
 step-sound : (g : Given) (p : Packet) (x : Step) → Sound g x (decided g p x)
-unfolding decided delivered lost repeated advancing replacing telling removing givingUp dropping refusing
+unfolding decided delivered leaving lost copied repeated advancing replacing telling removing givingUp dropping refusing
 step-sound g p (Start n) = refl
 step-sound g p (BeginRead y) = begin-sound g (BeginRead y) false y 0
 step-sound g p (BeginWrite y v) = begin-sound g (BeginWrite y v) true y v
@@ -121,11 +147,12 @@ step-sound g p (Deliver at choice) =
     by-test (Sound g (Deliver at choice)) (leb (g .held) at) refl
     (by-test (Sound g (Deliver at choice)) (leb limits.objects (p .object)) tt
     (deliver-sound g (Deliver at choice) at choice (at, choice, refl) (messageOf p)))
-step-sound g p (Lose at) = by-test (OfDecision g (Lose at)) (leb (g .held) at) refl tt
+step-sound g p (Lose at) = by-test (OfOpened g (Lose at)) (leb (g .held) at) refl tt
 step-sound g p (Repeat at) =
-    by-test (OfDecision g (Repeat at)) (leb (g .held) at) refl
-    (by-test (OfDecision g (Repeat at)) (isUnstamped p) refl
-    (by-test (OfDecision g (Repeat at)) (overfull (g .held) 0 1) refl tt))
+    by-test (OfOpened g (Repeat at)) (leb (g .held) at) refl
+    (by-test (OfOpened g (Repeat at)) (isUnstamped p) refl
+    (by-test (OfOpened g (Repeat at)) (overfull (g .held) 0 1) refl
+    (by-test (OfOpened g (Repeat at)) (isOfContext p) (by-test (OfOpened g (Repeat at)) (ltb (freeRow (g .opens)) limits.contexts) tt refl) tt)))
 step-sound g p (Advance r) =
     by-test (OfStored g (Advance r)) (isLive (g .store) r)
     (by-test (OfStored g (Advance r)) (eqb (pending (g .store) r) 0) refl
@@ -135,6 +162,7 @@ step-sound g p (Tell r) = by-test (OfStored g (Tell r)) (isLive (g .store) r) tt
 step-sound g p (Remove r) =
     by-test (OfStored g (Remove r)) (isLive (g .store) r) (by-test (OfStored g (Remove r)) (leb (liveCount (g .store)) 1) refl tt) refl
 step-sound g p (GiveUp o) = by-test (OfOpened g (GiveUp o)) (isOpen (g .opens) o) tt refl
+step-sound g p (BeginContext y) = context-sound g (BeginContext y) y
 
 in-sound : (places : ℕ) (g : Given) (p : Packet) (x : Step) → Sound g x (decidedIn places g p x)
 unfolding decidedIn refusing
@@ -148,14 +176,15 @@ passed false h = absurd h
 
 -- the test and the numbers
 step-number : (n : ℕ) → isStepNumber n ≡ true → StepNumber n
-step-number n = go (eqb n 1) refl (eqb n 15) refl (leb 3 n) refl
+step-number n = go (eqb n 1) refl (eqb n 15) refl (eqb n 16) refl (leb 3 n) refl
   where
-    go : (s : Bool) → eqb n 1 ≡ s → (l : Bool) → eqb n 15 ≡ l → (t : Bool) → leb 3 n ≡ t → cond s true (cond l true (cond t (leb n 13) false)) ≡ true →
-        StepNumber n
-    go true e l d t f h = inl (eqb-true n 1 e)
-    go false e true d t f h = inr (inr (eqb-true n 15 d))
-    go false e false d true f h = inr (inl (leb-true 3 n f, leb-true n 13 h))
-    go false e false d false f h = absurd (subst T (sym h) tt)
+    go : (s : Bool) → eqb n 1 ≡ s → (l : Bool) → eqb n 15 ≡ l → (k : Bool) → eqb n 16 ≡ k → (t : Bool) → leb 3 n ≡ t
+        → cond s true (cond l true (cond k true (cond t (leb n 13) false))) ≡ true → StepNumber n
+    go true e l d k c t f h = inl (eqb-true n 1 e)
+    go false e true d k c t f h = inr (inr (omega (arith, eqb-true n 15 d), omega (arith, eqb-true n 15 d)))
+    go false e false d true c t f h = inr (inr (omega (arith, eqb-true n 16 c), omega (arith, eqb-true n 16 c)))
+    go false e false d false c true f h = inr (inl (leb-true 3 n f, leb-true n 13 h))
+    go false e false d false c false f h = absurd (subst T (sym h) tt)
 
 -- every step of a machine
 module _ (m : Machine) (x : Step) where
@@ -182,11 +211,15 @@ module _ (m : Machine) (x : Step) where
       go : (a : Answer) → answerTo m x ≡ a → StepAnswer (answerTo m x)
       go Done e = inl e
       go (Finished o v f) e = inr (inl (o, v, f, e))
-      go (Refused r) e = inr (inr (r, e, step-number (refusalNumber r) (sound-refusal r e .0)))
+      go (FinishedContext o v) e = inr (inr (inl (o, v, e)))
+      go (Refused r) e = inr (inr (inr (r, e, step-number (refusalNumber r) (sound-refusal r e .0))))
 
   -- only a delivery finishes an operation
   pub finished-by-deliver : (o v f : ℕ) → answerTo m x ≡ Finished o v f → IsDeliver x
   finished-by-deliver o v f e = sound (Finished o v f) e
+
+  pub context-by-deliver : (o : ℕ) (v : Context) → answerTo m x ≡ FinishedContext o v → IsDeliver x
+  context-by-deliver o v e = sound (FinishedContext o v) e
 
 -- a start that comes as a step is refused, so it changes nothing
 pub start-keeps : (m : Machine) (n : ℕ) → after m (Start n) ≡ m

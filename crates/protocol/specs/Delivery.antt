@@ -15,10 +15,11 @@ use Rattle.waiting.specs.declared.Edit.{Edit}
 use Rattle.protocol.specs.declared.Refusal.the-variants.{WaitingFull}
 use Rattle.protocol.specs.declared.Answer.the-variants.{Finished}
 use Rattle.protocol.specs.declared.Message.{Message}
-use Rattle.protocol.specs.declared.Message.the-variants.{UnstampedWrite, SwitchRead, StampedWrite, DirectRead, NormalRead, Completion, Reply, Unknown}
+use Rattle.protocol.specs.declared.Message.the-variants.{UnstampedWrite, SwitchRead, StampedWrite, DirectRead, NormalRead, Completion, Reply, ContextRead, DirectContext, NormalContext, ContextReply, Unknown}
 use Rattle.protocol.specs.declared.Decision.{Decision}
 use Rattle.protocol.specs.Answers.{noFreshness, oldRead, newRead}
 use Rattle.protocol.specs.Messages.{packetOf}
+use Rattle.protocol.specs.Contexts.{contextRead, directContext, normalContext, contextReply}
 use Rattle.protocol.specs.Decisions.{Given, Outcome, Switched, Stored, Opened, switched, stored, opened, keeping, changingSwitch, changingStore, changingOpens}
 use Rattle.protocol.specs.Decisions.{deciding, takeOut, takeOutAddTwo, refusing, dropping, passing, overfull}
 
@@ -94,4 +95,8 @@ deliveredMessage g at choice (DirectRead r number t o x) = keeping g (directRead
 deliveredMessage g at choice (NormalRead r o x t) = keeping g (normalRead (g .store) at r o x t)
 deliveredMessage g at choice (Completion x t) = changingSwitch g (completion (g .switch) at x t)
 deliveredMessage g at choice (Reply o v t f) = changingOpens g (reply (g .opens) at o v f)
+deliveredMessage g at choice (ContextRead o r) = changingOpens g (contextRead (g .switch) (g .store) (g .opens) at choice o r)
+deliveredMessage g at choice (DirectContext q number t o r) = changingOpens g (directContext (g .store) (g .opens) at q number t o r)
+deliveredMessage g at choice (NormalContext q o r) = changingOpens g (normalContext (g .store) (g .opens) at q o r)
+deliveredMessage g at choice (ContextReply o r) = changingOpens g (contextReply (g .opens) at o r)
 deliveredMessage g at choice Unknown = keeping g (dropping at)

@@ -1,11 +1,13 @@
 -- Document 01, 'Steps and their records', with the refusals of 'Turned down' in their order; and the one function that decides every step.
-use mathlib.Core.Bool.{Bool, true, false, cond}
+use mathlib.Core.Bool.{Bool, true, false, cond, not}
 use mathlib.Core.List.{List}
 use Prim.Native.Nat.{ℕ, _+_}
 use lib.Dec.{eqb, leb, ltb}
 use lib.ListN.{length}
 use Rattle.limits.specs as limits
 use Rattle.operations.specs.{lastGiven, noneOpen, isOpen, roomToOpen, opening, closing}
+use Rattle.contexts.specs.declared.Objects.{Objects}
+use Rattle.contexts.specs.{contextOf, areObjects, areDifferent, isNaming, contextAt, freeRow, holding}
 use Rattle.store.specs.declared.Write.{Write}
 use Rattle.store.specs.{liveCount}
 use Rattle.chain.specs.{isLive, tailOf, permitting, removed, emptyStore}
@@ -15,19 +17,20 @@ use Rattle.switch.specs.DirtySet.{newSwitch, countedMarks}
 use Rattle.waiting.specs.declared.Packet.{Packet}
 use Rattle.waiting.specs.declared.Edit.{Edit}
 use Rattle.waiting.specs.Waiting.{WaitingList, held, lookAt, edited, noneWait}
-use Rattle.protocol.specs.declared.Refusal.the-variants.{Format, Replicas, ObjectNumber, OperationsUsedUp, OpenFull, WaitingFull, NoPacket, UnstampedRepeat, NotLive, NoLinkedWrite, SwitchNumber, LastReplica, NotOpen, BufferTooShort}
+use Rattle.protocol.specs.declared.Refusal.the-variants.{Format, Replicas, ObjectNumber, OperationsUsedUp, OpenFull, WaitingFull, NoPacket, UnstampedRepeat, NotLive, NoLinkedWrite, SwitchNumber, LastReplica, NotOpen, BufferTooShort, SameObject}
 use Rattle.protocol.specs.declared.Answer.{Answer}
 use Rattle.protocol.specs.declared.Answer.the-variants.{Done, Refused}
 use Rattle.protocol.specs.declared.Stepped.{Stepped}
 use Rattle.protocol.specs.declared.Message.{Message}
-use Rattle.protocol.specs.declared.Message.the-variants.{UnstampedWrite, SwitchRead, Completion, Reply}
+use Rattle.protocol.specs.declared.Message.the-variants.{UnstampedWrite, SwitchRead, Completion, Reply, ContextRead}
 use Rattle.protocol.specs.declared.Decision.{Decision}
 use Rattle.protocol.specs.declared.Step.{Step}
-use Rattle.protocol.specs.declared.Step.the-variants.{Start, BeginRead, BeginWrite, Deliver, Lose, Repeat, Advance, Replace, Tell, Remove, GiveUp}
+use Rattle.protocol.specs.declared.Step.the-variants.{Start, BeginRead, BeginWrite, Deliver, Lose, Repeat, Advance, Replace, Tell, Remove, GiveUp, BeginContext}
 use Rattle.protocol.specs.Answers.{noFreshness}
-use Rattle.protocol.specs.Messages.{packetOf, messageOf, isUnstamped}
+use Rattle.protocol.specs.Messages.{packetOf, messageOf, isUnstamped, isOfContext, inRow}
 use Rattle.protocol.specs.Decisions.{Given, given, Outcome, Switched, Stored, Opened, switched, stored, opened, keeping, changingSwitch, changingStore, changingOpens}
 use Rattle.protocol.specs.Decisions.{deciding, noEdit, addOne, addTwo, refusing, dropping, overfull}
+use Rattle.protocol.specs.Contexts.{leaving}
 use Rattle.protocol.specs.Delivery.{deliveredMessage}
 
 -- ---- the machine
@@ -87,21 +90,47 @@ beginOperation opens held isWrite x v =
     (opened (deciding (addOne (packetOf (asking isWrite (lastGiven opens + 1) x v)))) (opening opens (lastGiven opens + 1))))
     (opened (refusing OpenFull) opens)))
 
+-- Req 02: the same for a read of a whole context, whose objects go into the first free row. Order of refusals: 3, 16, 4, 5, 6; in a state that no run reaches there may
+-- be no free row: 6 too
+unfoldable pub beginContext : List ℕ → ℕ → Objects → Opened
+beginContext opens held x =
+    cond (areObjects (contextOf x))
+    (cond (areDifferent (contextOf x))
+    (cond (leb limits.lastOperation (lastGiven opens)) (opened (refusing OperationsUsedUp) opens)
+    (cond (roomToOpen opens)
+    (cond (overfull held 0 1) (opened (refusing WaitingFull) opens)
+    (cond (ltb (freeRow opens) limits.contexts)
+    (opened (deciding (addOne (packetOf (ContextRead (lastGiven opens + 1) (freeRow opens)))))
+    (holding (opening opens (lastGiven opens + 1)) (freeRow opens) (contextOf x)))
+    (opened (refusing WaitingFull) opens)))
+    (opened (refusing OpenFull) opens)))
+    (opened (refusing SameObject) opens))
+    (opened (refusing ObjectNumber) opens)
+
 -- deliver: 7, then what the packet asks. In a state that no run reaches a packet may name an object that there is not: it is dropped
 unfoldable pub delivered : Given → Packet → ℕ → ℕ → Outcome
 delivered g p at choice =
     cond (leb (g .held) at) (keeping g (refusing NoPacket))
-    (cond (leb limits.objects (p .object)) (keeping g (dropping at)) (deliveredMessage g at choice (messageOf p)))
+    (cond (leb limits.objects (p .object)) (changingOpens g (leaving (g .opens) p at)) (deliveredMessage g at choice (messageOf p)))
 
 -- 'lose the packet at a position'
-unfoldable pub lost : ℕ → ℕ → Decision
-lost held at = cond (leb held at) (refusing NoPacket) (dropping at)
+unfoldable pub lost : List ℕ → ℕ → Packet → ℕ → Opened
+lost opens held p at = cond (leb held at) (opened (refusing NoPacket) opens) (leaving opens p at)
+
+-- a copy of a packet of a context has a copy of its row; in a state that no run reaches there may be no free row: 6
+unfoldable pub copied : List ℕ → Packet → Opened
+copied opens p =
+    cond (isOfContext p)
+    (cond (ltb (freeRow opens) limits.contexts)
+    (opened (deciding (addOne (inRow p (freeRow opens)))) (holding opens (freeRow opens) (contextAt opens (p .value))))
+    (opened (refusing WaitingFull) opens))
+    (opened (deciding (addOne p)) opens)
 
 -- 'repeat it: a copy at the end of the list'. Order: 7, 8, 6
-unfoldable pub repeated : ℕ → Packet → ℕ → Decision
-repeated held p at =
-    cond (leb held at) (refusing NoPacket)
-    (cond (isUnstamped p) (refusing UnstampedRepeat) (cond (overfull held 0 1) (refusing WaitingFull) (deciding (addOne p))))
+unfoldable pub repeated : List ℕ → ℕ → Packet → ℕ → Opened
+repeated opens held p at =
+    cond (leb held at) (opened (refusing NoPacket) opens)
+    (cond (isUnstamped p) (opened (refusing UnstampedRepeat) opens) (cond (overfull held 0 1) (opened (refusing WaitingFull) opens) (copied opens p)))
 
 -- what the tail sends for a write
 abbrev pub sending : Write → Edit
@@ -149,6 +178,7 @@ positionOf (Replace number) = 0
 positionOf (Tell r) = 0
 positionOf (Remove r) = 0
 positionOf (GiveUp o) = 0
+positionOf (BeginContext x) = 0
 
 -- the decision of a step; p is the packet at its position. A start that comes as a step is refused
 unfoldable pub decided : Given → Packet → Step → Outcome
@@ -156,15 +186,16 @@ decided g p (Start n) = keeping g (refusing Format)
 decided g p (BeginRead x) = changingOpens g (beginOperation (g .opens) (g .held) false x 0)
 decided g p (BeginWrite x v) = changingOpens g (beginOperation (g .opens) (g .held) true x v)
 decided g p (Deliver at choice) = delivered g p at choice
-decided g p (Lose at) = keeping g (lost (g .held) at)
-decided g p (Repeat at) = keeping g (repeated (g .held) p at)
+decided g p (Lose at) = changingOpens g (lost (g .opens) (g .held) p at)
+decided g p (Repeat at) = changingOpens g (repeated (g .opens) (g .held) p at)
 decided g p (Advance r) = changingStore g (advancing (g .store) (g .held) r)
 decided g p (Replace number) = changingSwitch g (replacing (g .switch) number)
 decided g p (Tell r) = changingStore g (telling (g .switch) (g .store) r)
 decided g p (Remove r) = changingStore g (removing (g .store) r)
 decided g p (GiveUp o) = changingOpens g (givingUp (g .opens) o)
+decided g p (BeginContext x) = changingOpens g (beginContext (g .opens) (g .held) x)
 
--- a step that is none: 1, before anything else
+-- a step that is none, or one with another number of objects than 2 to 8: 1, before anything else
 unfoldable pub isMalformed : Step → Bool
 isMalformed (Start n) = true
 isMalformed (BeginRead x) = false
@@ -177,6 +208,7 @@ isMalformed (Replace number) = false
 isMalformed (Tell r) = false
 isMalformed (Remove r) = false
 isMalformed (GiveUp o) = false
+isMalformed (BeginContext x) = not (isNaming x)
 
 -- then 15, where fewer than 64 places are lent for the packets; then the step itself
 unfoldable pub decidedIn : ℕ → Given → Packet → Step → Outcome

@@ -31,5 +31,6 @@ pub fn refusal_number(r: Refusal) -> u8
         Refusal::NotOpen => 13,
         Refusal::InputTooLong => 14,
         Refusal::BufferTooShort => 15,
+        Refusal::SameObject => 16,
     }
 }

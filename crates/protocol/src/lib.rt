@@ -4,6 +4,8 @@ pub mod answers;
 pub mod decisions;
 pub mod messages;
 
+use contexts::Context;
+use contexts::Objects;
 use limits::Freshness;
 use limits::Number;
 use limits::Object;
@@ -27,6 +29,7 @@ pub enum Step {
     Tell(u8),
     Remove(u8),
     GiveUp(u16),
+    BeginContext(Objects),
 }
 
 // Document 01, 'Turned down': a refusal for each row of the table.
@@ -46,17 +49,19 @@ pub enum Refusal {
     NotOpen,
     InputTooLong,
     BufferTooShort,
+    SameObject,
 }
 
-// A step was done; or done, and it finished an operation with a value and what a read says of a pending write; or refused.
+// A step was done; or done, and it finished an operation with a value and what a read says of a pending write, or a read of a whole context with its values; or refused.
 pub enum Answer {
     Done,
     Finished(Operation, Value, Freshness),
+    FinishedContext(Operation, Context),
     Refused(Refusal),
 }
 
 // A packet by its kind: document 01, 'What delivery does'. The stamp of a normal read and of a reply is that of the pending write that the read goes round, (0,0) where
-// there is none.
+// there is none. The last four are of a read of a whole context, whose row in crates/contexts they name.
 pub enum Message {
     UnstampedWrite(Operation, Object, Value),
     SwitchRead(Operation, Object),
@@ -65,6 +70,10 @@ pub enum Message {
     NormalRead(Replica, Operation, Object, Stamp),
     Completion(Object, Stamp),
     Reply(Operation, Value, Stamp, Freshness),
+    ContextRead(Operation, u32),
+    DirectContext(Replica, Number, Stamp, Operation, u32),
+    NormalContext(Replica, Operation, u32),
+    ContextReply(Operation, u32),
     Unknown,
 }
 

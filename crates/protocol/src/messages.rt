@@ -1,6 +1,6 @@
 // Packets and the messages that they hold.
 ghost use mathlib.Core.Path.{_≡_};
-ghost use Rattle.protocol.specs.Messages.{packetOf, messageOf, isUnstamped, writeOf};
+ghost use Rattle.protocol.specs.Messages.{packetOf, contextMessage, messageOf, isUnstamped, isOfContext, inRow, writeOf};
 use crate::Message;
 use limits::Freshness;
 use limits::Number;
@@ -50,6 +50,10 @@ pub fn packet_of(m: Message) -> Packet
         Message::NormalRead(r, o, x, t) => packet(5, r, 0, o, x, 0, t, 0),
         Message::Completion(x, t) => packet(6, 0, 0, 0, x, 0, t, 0),
         Message::Reply(o, v, t, f) => packet(7, 0, 0, o, 0, v, t, f),
+        Message::ContextRead(o, r) => packet(8, 0, 0, o, 0, r, 0, 0),
+        Message::DirectContext(q, number, t, o, r) => packet(9, q, number, o, 0, r, t, 0),
+        Message::NormalContext(q, o, r) => packet(10, q, 0, o, 0, r, 0, 0),
+        Message::ContextReply(o, r) => packet(11, 0, 0, o, 0, r, 0, 0),
         Message::Unknown => Packet::blank(),
     }
 }
@@ -63,6 +67,25 @@ fn write_of(p: Packet) -> Write
         value: p.value,
         stamp: p.stamp,
     }
+}
+
+// The message of a read of a whole context; what a packet of no kind holds.
+fn context_message(p: Packet) -> Message
+    ensures { λ r. ⌜ r ≡ contextMessage p ⌝ }
+{
+    if p.kind == 8 {
+        return Message::ContextRead(p.operation, p.value);
+    }
+    if p.kind == 9 {
+        return Message::DirectContext(p.replica, p.number, p.stamp, p.operation, p.value);
+    }
+    if p.kind == 10 {
+        return Message::NormalContext(p.replica, p.operation, p.value);
+    }
+    if p.kind == 11 {
+        return Message::ContextReply(p.operation, p.value);
+    }
+    Message::Unknown
 }
 
 // The message that a packet holds.
@@ -90,11 +113,37 @@ pub fn message_of(p: Packet) -> Message
     if p.kind == 7 {
         return Message::Reply(p.operation, p.value, p.stamp, p.freshness);
     }
-    Message::Unknown
+    context_message(p)
 }
 
 pub fn is_unstamped(p: Packet) -> bool
     ensures { λ r. ⌜ r ≡ isUnstamped p ⌝ }
 {
     p.kind == 1
+}
+
+// Whether the packet is one of a read of a whole context.
+pub fn is_of_context(p: Packet) -> bool
+    ensures { λ r. ⌜ r ≡ isOfContext p ⌝ }
+{
+    if p.kind < 8 {
+        return false;
+    }
+    p.kind <= 11
+}
+
+// The packet with another row.
+pub fn in_row(p: Packet, row: u32) -> Packet
+    ensures { λ r. ⌜ r ≡ inRow p row ⌝ }
+{
+    Packet {
+        kind: p.kind,
+        replica: p.replica,
+        number: p.number,
+        operation: p.operation,
+        object: p.object,
+        value: row,
+        stamp: p.stamp,
+        freshness: p.freshness,
+    }
 }

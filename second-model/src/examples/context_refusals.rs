@@ -112,4 +112,9 @@ context-named-twice-tested-before-waiting: {waiting}; read 5 5 => 66 no 16
 context-object-tested-before-waiting: {waiting}; read 1024 1024 => 66 no 3
 
 context-with-63-waiting: {waiting}; lose 0; read 5 6 => 67 ok 64 0 - - -
+
+sixty-four-contexts-of-eight-open: start 1; 64 * read 1 2 3 4 5 6 7 8; 192 * deliver 0
+    => 257 ok 0 0 64 0,0,0,0,0,0,0,0 -
+
+refused-contexts-up-to-65536-bytes: start 1; 9360 * read 5 5; 2 * deliver 0 => 9363 no 7
 ";

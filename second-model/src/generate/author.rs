@@ -453,12 +453,25 @@ impl Author {
         found.then_some(head)
     }
 
-    /// Any live replica, or as often one between with writes beside it or a
-    /// head whose writes reads go round.
+    /// A live replica that a direct or a normal read of several objects waits
+    /// for, the newest one first.
+    fn awaited(&self) -> Option<u8> {
+        let awaited = |packet: &Packet| match *packet {
+            Packet::DirectRead { to, objects, .. } | Packet::NormalRead { to, objects, .. } => {
+                objects.is_context().then_some(to)
+            }
+            _ => None,
+        };
+        let mut names = self.model.packets().iter().rev().filter_map(awaited);
+        names.find(|&name| self.model.permits(name).is_some())
+    }
+
+    /// Any live replica, or as often one between with writes beside it, a head
+    /// whose writes reads go round or one that reads wait for.
     fn removal(&mut self) -> Step {
         let any = self.any_replica();
-        let head = self.head_gone_round();
-        let laden = head.or(self.laden_middle()).unwrap_or(any);
+        let wanted = self.awaited().or(self.head_gone_round());
+        let laden = wanted.or(self.laden_middle()).unwrap_or(any);
         Step::Remove {
             replica: self.random.one_of(&[any, laden]),
         }

@@ -247,33 +247,52 @@ fn different_objects(random: &mut Random, first: usize, last: usize) -> Vec<u16>
 }
 
 /// Reads of several objects among single reads and writes of the same few
-/// objects. The list, the open operations or neither are nearly full; direct
-/// reads are held back, or normal reads, or neither; switches are replaced
-/// often, now and then or never.
+/// objects. Writes are rare or not; direct reads are held back, or normal reads,
+/// or neither; switches are replaced often, now and then or never.
 fn read_contexts(mood: &mut Mood, random: &mut Random, length: usize) {
     mood.replicas = random.one_of(&[1, 2, 2, 3, 3, 4, 5, 8]);
     mood.objects = different_objects(random, 2, 10);
     mood.weights[READ] = 700;
-    mood.weights[WRITE] = random.one_of(&[300, 800, 1500]);
+    mood.weights[WRITE] = random.one_of(&[60, 150, 400, 1200]);
     mood.weights[CONTEXT] = 2500;
     mood.weights[REPEAT] = random.one_of(&[200, 1500]);
+    mood.weights[ADVANCE] = random.one_of(&[1000, 6000]);
     mood.weights[LOSE] = random.one_of(&[150, 600]);
-    mood.weights[REPLACE] = random.one_of(&[0, 4, 60]);
-    mood.weights[TELL] = random.one_of(&[300, 4000]);
+    mood.weights[REPLACE] = random.one_of(&[0, 4, 4, 60]);
+    mood.weights[TELL] = random.one_of(&[300, 4000, 4000]);
     mood.weights[REMOVE] = removal_weight(length, random.one_of(&[0, 2, 6]));
     mood.orderly = random.one_of(&[100, 500, 800]);
-    mood.linked = random.within(0, 6);
-    match random.below(8) {
-        0 | 1 => mood.waiting = random.within(61, 65),
-        2 => fill_open(mood, random),
-        _ => mood.waiting = random.within(3, 20),
-    }
+    mood.waiting = random.within(3, 20);
+    mood.linked = random.one_of(&[0, 0, 0, 6]);
+    mood.late = random.one_of(&[0, 0, 500, 900]);
     match random.below(3) {
         0 => mood.mischief = true,
         1 => mood.rounds = true,
         _ => {}
     }
-    mood.late = random.one_of(&[0, 0, 500, 900]);
+    match random.below(8) {
+        0 => crowd_contexts(mood, random),
+        1 => fill_open(mood, random),
+        2 => fill_both(mood),
+        _ => {}
+    }
+}
+
+/// The list nearly full, most of it packets of contexts.
+fn crowd_contexts(mood: &mut Mood, random: &mut Random) {
+    mood.waiting = random.within(61, 65);
+    mood.weights[READ] = 50;
+    mood.weights[WRITE] = 100;
+    mood.weights[REPEAT] = 2500;
+    mood.weights[GIVE_UP] = 600;
+}
+
+/// 64 packets waiting and 64 operations open.
+fn fill_both(mood: &mut Mood) {
+    (mood.waiting, mood.open) = (65, 65);
+    mood.weights[DELIVER] = 1500;
+    mood.weights[LOSE..=REPEAT].fill(0);
+    mood.weights[GIVE_UP] = 0;
 }
 
 /// The same with fields at their limits: objects above 1,023, objects named
@@ -283,13 +302,16 @@ fn refuse_contexts(mood: &mut Mood, random: &mut Random, length: usize) {
     mood.wild = random.one_of(&[50, 400]);
 }
 
-/// Few operations on two or three objects, which most reads name together.
+/// Few operations on two or three objects, which most reads name together. The
+/// links move slowly, so that replicas differ for long.
 fn stay_small_with_contexts(mood: &mut Mood, random: &mut Random, length: usize) {
     stay_small(mood, random, length);
     mood.objects = different_objects(random, 2, 3);
-    mood.weights[READ] = 200;
-    mood.weights[WRITE] = 500;
-    mood.weights[CONTEXT] = 600;
+    mood.begins = random.within(8, 12) as u16;
+    mood.weights[READ] = 400;
+    mood.weights[WRITE] = 300;
+    mood.weights[CONTEXT] = 1200;
+    mood.weights[ADVANCE] = random.one_of(&[50, 150, 400]);
 }
 
 #[cfg(test)]

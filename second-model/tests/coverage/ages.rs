@@ -88,14 +88,20 @@ impl Ages {
     /// A packet about to be delivered.
     fn delivering(&mut self, model: &Model) -> Events {
         match self.delivered {
-            Some(Packet::Read { operation, object }) => self.sending(model, operation, object),
+            Some(Packet::Read { operation, objects }) => match objects.kept() {
+                &[object] => self.sending(model, operation, object),
+                _ => vec![],
+            },
             Some(Packet::DirectRead {
                 to,
                 operation,
-                object,
+                objects,
                 switch,
                 committed,
             }) => {
+                let &[object] = objects.kept() else {
+                    return vec![];
+                };
                 let held = model.held(to, object);
                 let above = held.is_some_and(|held| held.stamp > committed);
                 let rejected = above || model.permits(to) != Some(switch);
@@ -104,9 +110,10 @@ impl Ages {
             Some(Packet::NormalRead {
                 to,
                 operation,
-                object,
+                objects,
                 carried: Some(carried),
-            }) => match model.held(to, object) {
+                ..
+            }) => match model.held(to, objects.kept()[0]) {
                 Some(held) => self.answering((operation, carried), held.stamp),
                 None => vec!["answering: gone, with a stamp"],
             },

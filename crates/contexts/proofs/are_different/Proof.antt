@@ -20,14 +20,14 @@ loop-holds : tie.Need-loop-holds Inv-loop μ-loop
 loop-holds c = (omega arith, c .size .ensures .0, c .size .ensures .1, below-none _)
 
 returns : tie.Need-returns Inv-loop μ-loop
-returns c = 
+returns c =
     let turn = c .before .before .before .before .loop in
     let inside : turn .i < sizeOf (c .before .before .before .before .before .before .args .v) = omega (arith, turn .inv .1) in
     sym (different-fail _ (turn .i) inside
     (stands-later _ (turn .i) inside (λ e. c .if1 .taken (c .before .find .ensures ∙ ap (indexOf _) (c .before .before .place .ensures) ∙ e))))
 
 loop-again : tie.Need-loop-again Inv-loop μ-loop
-loop-again c = 
+loop-again c =
     let turn = c .before .before .before .before .loop in (
       omega arith,
       turn .inv .1,

@@ -20,13 +20,13 @@ loop-holds : tie.Need-loop-holds Inv-loop μ-loop
 loop-holds c = (omega arith, c .size .ensures .0, c .size .ensures .1, below-none _)
 
 returns : tie.Need-returns Inv-loop μ-loop
-returns c = 
+returns c =
     let turn = c .before .before .before .before .loop in
     sym (objects-fail _ (turn .i) (omega arith)
     (ap isObject (sym (c .before .before .place .ensures)) ∙ sym (c .before .is-object .ensures) ∙ not-true (c .before .is-object .result) (c .if1 .taken)))
 
 loop-again : tie.Need-loop-again Inv-loop μ-loop
-loop-again c = 
+loop-again c =
     let turn = c .before .before .before .before .loop in (
       omega arith,
       turn .inv .1,

@@ -18,12 +18,12 @@ loop-holds : tie.Need-loop-holds Inv-loop μ-loop
 loop-holds c = (omega arith, c .size .ensures .0, c .size .ensures .1, below-none _)
 
 returns : tie.Need-returns Inv-loop μ-loop
-returns c = 
+returns c =
     let turn = c .before .before .before .loop in
     sym (place-first _ _ (turn .i) (omega arith) (turn .inv .3) (sym (c .before .place .ensures) ∙ c .if1 .taken))
 
 loop-again : tie.Need-loop-again Inv-loop μ-loop
-loop-again c = 
+loop-again c =
     let turn = c .before .before .before .loop in
     (omega arith, turn .inv .1, turn .inv .2, below-more _ _ (turn .inv .3) (λ e. c .if1 .left (c .before .place .ensures ∙ e)))
 

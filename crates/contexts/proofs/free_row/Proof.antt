@@ -18,12 +18,12 @@ loop-holds : tie.Need-loop-holds Inv-loop μ-loop
 loop-holds c = (omega arith, below-none _)
 
 returns : tie.Need-returns Inv-loop μ-loop
-returns c = 
+returns c =
     let turn = c .before .before .before .loop in
     sym (free-first _ (turn .r) (omega arith) (turn .inv .1) (sym (c .before .size-at .ensures) ∙ c .if1 .taken))
 
 loop-again : tie.Need-loop-again Inv-loop μ-loop
-loop-again c = 
+loop-again c =
     let turn = c .before .before .before .loop in
     (omega arith, below-more _ _ (turn .inv .1) (λ e. c .if1 .left (c .before .size-at .ensures ∙ e)))
 

@@ -34,7 +34,16 @@ returns-7 c = simp (ne-eqb _ _ (c .before .before .before .before .before .befor
 
 returns-8 : tie.Need-returns-8
 unfolding messageOf
-returns-8 c = simp (ne-eqb _ _ (c .before .before .before .before .before .before .before .before .before .before .before .before .if1 .left), ne-eqb _ _ (c .before .before .before .before .before .before .before .before .before .before .if2 .left), ne-eqb _ _ (c .before .before .before .before .before .before .before .before .if3 .left), ne-eqb _ _ (c .before .before .before .before .before .before .if4 .left), ne-eqb _ _ (c .before .before .before .before .if5 .left), ne-eqb _ _ (c .before .before .if6 .left), ne-eqb _ _ (c .if7 .left))
+returns-8 c = simp (
+  ne-eqb _ _ (c .before .before .before .before .before .before .before .before .before .before .before .before .before .if1 .left),
+  ne-eqb _ _ (c .before .before .before .before .before .before .before .before .before .before .before .if2 .left),
+  ne-eqb _ _ (c .before .before .before .before .before .before .before .before .before .if3 .left),
+  ne-eqb _ _ (c .before .before .before .before .before .before .before .if4 .left),
+  ne-eqb _ _ (c .before .before .before .before .before .if5 .left),
+  ne-eqb _ _ (c .before .before .before .if6 .left),
+  ne-eqb _ _ (c .before .if7 .left),
+  c .context-message .ensures,
+)
 
 pub message-of-spec : {M : Type 1} → statement M
 message-of-spec =
@@ -48,4 +57,5 @@ message-of-spec =
     returns-5
     returns-6
     returns-7
+    (λ c κs. search needs)
     returns-8)

@@ -33,12 +33,36 @@ returns-7 c = rw (c .before .before .m7 .given .1) (c .packet7 .ensures)
 
 returns-8 : tie.Need-returns-8
 unfolding packetOf
-returns-8 c = rw (c .before .enum-told .given .1) (c .blank .ensures)
+returns-8 c = rw (c .before .before .m8 .given .1) (c .packet8 .ensures)
+
+returns-9 : tie.Need-returns-9
+unfolding packetOf
+returns-9 c = rw (c .before .before .m9 .given .1) (c .packet9 .ensures)
+
+returns-10 : tie.Need-returns-10
+unfolding packetOf
+returns-10 c = rw (c .before .before .m10 .given .1) (c .packet10 .ensures)
+
+returns-11 : tie.Need-returns-11
+unfolding packetOf
+returns-11 c = rw (c .before .before .m11 .given .1) (c .packet11 .ensures)
+
+returns-12 : tie.Need-returns-12
+unfolding packetOf
+returns-12 c = rw (c .before .enum-told .given .1) (c .blank .ensures)
 
 pub packet-of-spec : {M : Type 1} → statement M
 packet-of-spec =
     tie.close
     (tie.spec
+    (λ c. search needs)
+    (λ c κs. search needs)
+    (λ c. search needs)
+    (λ c κs. search needs)
+    (λ c. search needs)
+    (λ c κs. search needs)
+    (λ c. search needs)
+    (λ c κs. search needs)
     (λ c. search needs)
     (λ c κs. search needs)
     (λ c. search needs)
@@ -62,4 +86,8 @@ packet-of-spec =
     returns-5
     returns-6
     returns-7
-    returns-8)
+    returns-8
+    returns-9
+    returns-10
+    returns-11
+    returns-12)
