@@ -200,6 +200,25 @@ the-answered-direct-copy-comes-first: {direct-copies}; deliver 0 => 18 ok 3 1 2 
 
 the-answered-direct-copy-is-ignored: {direct-copies}; deliver 3; deliver 0 => 19 ok 2 1 - - -
 
+let values: start 1; write 1 11; 4 * deliver 0; write 2 22; 4 * deliver 0; write 3 33;
+    4 * deliver 0; write 4 44; 4 * deliver 0; write 5 55; 4 * deliver 0; write 6 66;
+    4 * deliver 0; write 7 77; 4 * deliver 0; write 8 88; 4 * deliver 0
+
+copy-of-eight-objects-at-the-switch: {values}; read 8 7 6 5 4 3 2 1; repeat 0; lose 0;
+    3 * deliver 0
+    => 47 ok 0 0 9 88,77,66,55,44,33,22,11 -
+
+copy-of-eight-objects-direct: {values}; read 8 7 6 5 4 3 2 1; deliver 0; repeat 0; lose 0;
+    2 * deliver 0
+    => 47 ok 0 0 9 88,77,66,55,44,33,22,11 -
+
+copy-of-eight-objects-normal: {values}; write 1 99; deliver 0; read 8 7 6 5 4 3 2 1; deliver 1;
+    repeat 1; lose 1; 2 * deliver 1
+    => 49 ok 1 1 10 88,77,66,55,44,33,22,11 -
+
+copy-of-eight-values: {values}; read 8 7 6 5 4 3 2 1; 2 * deliver 0; repeat 0; lose 0; deliver 0
+    => 47 ok 0 0 9 88,77,66,55,44,33,22,11 -
+
 context-lost-before-the-switch: start 1; read 5 6; lose 0; give up 1 => 4 ok 0 0 - - -
 
 context-lost-before-the-tail: start 1; read 5 6; deliver 0; lose 0; give up 1 => 5 ok 0 0 - - -
@@ -213,6 +232,14 @@ context-given-up: start 1; read 5 6; give up 1; 3 * deliver 0 => 6 ok 0 0 - - -
 
 context-given-up-after-the-answer: start 1; read 5 6; 2 * deliver 0; give up 1; deliver 0
     => 6 ok 0 0 - - -
+
+direct-context-given-up-after-the-answer: start 2; {done}; read 5 6; 2 * deliver 0; give up 2;
+    deliver 0
+    => 12 ok 0 0 - - -
+
+rejected-context-given-up-after-the-answer: start 2; {done}; read 5 6; deliver 0; write 6 8;
+    2 * deliver 1; 2 * deliver 0; give up 2; deliver 0
+    => 16 ok 0 1 - - -
 
 context-finished-is-not-open: start 1; read 5 6; 3 * deliver 0; give up 1 => 6 no 13
 
