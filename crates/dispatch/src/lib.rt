@@ -33,7 +33,7 @@ fn deliver(
         return decisions::refuse(Refusal::NoPacket);
     }
     if OBJECTS <= (p.object as usize) {
-        return decisions::drop_packet(at);
+        return context_delivery::leave(&mut *opens, p, at);
     }
     let m = messages::message_of(p);
     match m {
@@ -48,6 +48,16 @@ fn deliver(
         Message::NormalRead(r, o, x, t) => delivery::normal_read(store, at, r, o, x, t),
         Message::Completion(x, t) => delivery::complete(&mut *switch, at, x, t),
         Message::Reply(o, v, t, f) => delivery::finish(&mut *opens, at, o, v, f),
+        Message::ContextRead(o, r) => {
+            context_delivery::switch_read(switch, store, &mut *opens, at, choice, o, r)
+        }
+        Message::DirectContext(q, number, t, o, r) => {
+            context_delivery::direct_read(store, &mut *opens, at, q, number, t, o, r)
+        }
+        Message::NormalContext(q, o, r) => {
+            context_delivery::normal_read(store, &mut *opens, at, q, o, r)
+        }
+        Message::ContextReply(o, r) => context_delivery::finish(&mut *opens, at, o, r),
         Message::Unknown => decisions::drop_packet(at),
     }
 }
@@ -77,13 +87,14 @@ fn decide_step(
             at as usize,
             choice,
         ),
-        Step::Lose(at) => steps::lose(held, at as usize),
-        Step::Repeat(at) => steps::repeat(held, p, at as usize),
+        Step::Lose(at) => steps::lose(&mut *opens, held, p, at as usize),
+        Step::Repeat(at) => steps::repeat(&mut *opens, held, p, at as usize),
         Step::Advance(r) => steps::advance(&mut *store, held, r),
         Step::Replace(number) => steps::replace(&mut *switch, number),
         Step::Tell(r) => steps::tell(switch, &mut *store, r),
         Step::Remove(r) => steps::remove(&mut *store, r),
         Step::GiveUp(o) => steps::give_up(&mut *opens, o as Operation),
+        Step::BeginContext(x) => steps::begin_context(&mut *opens, held, x),
     }
 }
 
@@ -103,6 +114,7 @@ fn is_malformed(x: Step) -> bool
         Step::Tell(r) => false,
         Step::Remove(r) => false,
         Step::GiveUp(o) => false,
+        Step::BeginContext(x) => !contexts::is_naming(x),
     }
 }
 

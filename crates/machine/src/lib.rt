@@ -67,6 +67,7 @@ fn position(x: Step) -> usize
         Step::Tell(r) => 0,
         Step::Remove(r) => 0,
         Step::GiveUp(o) => 0,
+        Step::BeginContext(x) => 0,
     }
 }
 

@@ -1,6 +1,15 @@
 // Every step but the delivery of a packet, which crates/delivery has.
 ghost use mathlib.Core.Path.{_≡_};
-ghost use Rattle.protocol.specs.Steps.{asking, beginOperation, lost, repeated, sending, advancing, replacing, telling, removing, givingUp};
+ghost use Prim.Native.Nat.{_+_, _<_};
+ghost use Rattle.operations.specs.{lastGiven, opening};
+ghost use Rattle.contexts.specs.{holding};
+ghost use Rattle.protocol.specs.declared.Message.the-variants.{ContextRead};
+ghost use Rattle.protocol.specs.Messages.{packetOf};
+ghost use Rattle.protocol.specs.Decisions.{deciding, addOne};
+ghost use Rattle.protocol.specs.Steps.{asking, beginOperation, beginContext, lost, copied, repeated, sending, advancing, replacing, telling, removing, givingUp};
+use contexts::Context;
+use contexts::Objects;
+use limits::CONTEXTS;
 use limits::LAST_OPERATION;
 use limits::Number;
 use limits::OBJECTS;
@@ -59,17 +68,85 @@ pub fn begin(
     decisions::done(decisions::add_one(messages::packet_of(m)))
 }
 
-pub fn lose(held: usize, at: usize) -> Decision
-    ensures { λ d. ⌜ d ≡ lost held at ⌝ }
+// The operation of a read of a whole context begins, and its objects go into a free row.
+fn enter(opens: &mut [u32; operations::CELLS], row: u32, v: Context) -> Decision
+    requires { ⌜ lastGiven (now opens) < 65535 ⌝ }
+    ensures { λ d. ⌜ (d ≡ deciding (addOne (packetOf (ContextRead (lastGiven (now (opens .entry)) + 1) row))))
+        × (now (opens .exit) ≡ holding (opening (now (opens .entry)) (lastGiven (now (opens .entry)) + 1)) row v) ⌝ }
+{
+    let o = operations::last(opens) + 1;
+    operations::open(&mut *opens, o);
+    contexts::hold(&mut *opens, row, v);
+    decisions::done(decisions::add_one(
+        messages::packet_of(Message::ContextRead(o, row)),
+    ))
+}
+
+// A read of a whole context begins, with one packet to the switch.
+pub fn begin_context(opens: &mut [u32; operations::CELLS], held: usize, x: Objects) -> Decision
+    ensures { λ d. ⌜ (d ≡ beginContext (now (opens .entry)) held x .decision)
+        × (now (opens .exit) ≡ beginContext (now (opens .entry)) held x .opens) ⌝ }
+{
+    let v = contexts::context_of(x);
+    if !contexts::are_objects(v) {
+        return decisions::refuse(Refusal::ObjectNumber);
+    }
+    if !contexts::are_different(v) {
+        return decisions::refuse(Refusal::SameObject);
+    }
+    if LAST_OPERATION <= operations::last(opens) {
+        return decisions::refuse(Refusal::OperationsUsedUp);
+    }
+    if !operations::has_room(opens) {
+        return decisions::refuse(Refusal::OpenFull);
+    }
+    if decisions::is_overfull(held, 0, 1) {
+        return decisions::refuse(Refusal::WaitingFull);
+    }
+    let row = contexts::free_row(opens);
+    if CONTEXTS <= row {
+        return decisions::refuse(Refusal::WaitingFull);
+    }
+    enter(&mut *opens, row, v)
+}
+
+pub fn lose(
+    opens: &mut [u32; operations::CELLS],
+    held: usize,
+    p: Packet,
+    at: usize,
+) -> Decision
+    ensures { λ d. ⌜ (d ≡ lost (now (opens .entry)) held p at .decision) × (now (opens .exit) ≡ lost (now (opens .entry)) held p at .opens) ⌝ }
 {
     if held <= at {
         return decisions::refuse(Refusal::NoPacket);
     }
-    decisions::drop_packet(at)
+    context_delivery::leave(&mut *opens, p, at)
 }
 
-pub fn repeat(held: usize, p: Packet, at: usize) -> Decision
-    ensures { λ d. ⌜ d ≡ repeated held p at ⌝ }
+// A copy of the packet; one of a context has a copy of its row.
+fn copy(opens: &mut [u32; operations::CELLS], p: Packet) -> Decision
+    ensures { λ d. ⌜ (d ≡ copied (now (opens .entry)) p .decision) × (now (opens .exit) ≡ copied (now (opens .entry)) p .opens) ⌝ }
+{
+    if !messages::is_of_context(p) {
+        return decisions::done(decisions::add_one(p));
+    }
+    let row = contexts::free_row(opens);
+    if CONTEXTS <= row {
+        return decisions::refuse(Refusal::WaitingFull);
+    }
+    let v = contexts::load(opens, p.value);
+    contexts::hold(&mut *opens, row, v);
+    decisions::done(decisions::add_one(messages::in_row(p, row)))
+}
+
+pub fn repeat(
+    opens: &mut [u32; operations::CELLS],
+    held: usize,
+    p: Packet,
+    at: usize,
+) -> Decision
+    ensures { λ d. ⌜ (d ≡ repeated (now (opens .entry)) held p at .decision) × (now (opens .exit) ≡ repeated (now (opens .entry)) held p at .opens) ⌝ }
 {
     if held <= at {
         return decisions::refuse(Refusal::NoPacket);
@@ -80,7 +157,7 @@ pub fn repeat(held: usize, p: Packet, at: usize) -> Decision
     if decisions::is_overfull(held, 0, 1) {
         return decisions::refuse(Refusal::WaitingFull);
     }
-    decisions::done(decisions::add_one(p))
+    copy(&mut *opens, p)
 }
 
 // The reply and the completion that the tail sends for a write.
