@@ -52,7 +52,7 @@ abbrev pub Store : RattleType
 Store = Array u32 16673
 
 abbrev pub Opens : RattleType
-Opens = Array u32 66
+Opens = Array u32 642
 
 -- machine values
 abbrev pub step-vals : Step → List Val

@@ -23,11 +23,11 @@ returns-4 c = rw (c .before .before .before .before .before .x4 .given .1) (c .d
 
 returns-5 : tie.Need-returns-5
 unfolding decided
-returns-5 c = rw (c .before .before .x5 .given .1) (leaves (c .lose .ensures) refl refl refl)
+returns-5 c = rw (c .before .before .before .x5 .given .1) (leaves (c .lose .ensures .0) refl refl (c .lose .ensures .1))
 
 returns-6 : tie.Need-returns-6
 unfolding decided
-returns-6 c = rw (c .before .before .x6 .given .1) (leaves (c .repeat .ensures) refl refl refl)
+returns-6 c = rw (c .before .before .before .x6 .given .1) (leaves (c .repeat .ensures .0) refl refl (c .repeat .ensures .1))
 
 returns-7 : tie.Need-returns-7
 unfolding decided
@@ -48,6 +48,10 @@ returns-10 c = rw (c .before .before .before .x10 .given .1) (leaves (c .remove 
 returns-11 : tie.Need-returns-11
 unfolding decided
 returns-11 c = rw (c .before .before .before .x11 .given .1) (leaves (c .give-up .ensures .0) refl refl (c .give-up .ensures .1))
+
+returns-12 : tie.Need-returns-12
+unfolding decided
+returns-12 c = rw (c .before .before .before .x12 .given .1) (leaves (c .begin-context .ensures .0) refl refl (c .begin-context .ensures .1))
 
 pub decide-step-spec : {M : Type 1} → statement M
 decide-step-spec =
@@ -81,6 +85,8 @@ decide-step-spec =
     (λ c. search needs)
     (λ c. search needs)
     (λ c κs. search needs)
+    (λ c. search needs)
+    (λ c κs. search needs)
     returns
     returns-2
     returns-3
@@ -91,4 +97,5 @@ decide-step-spec =
     returns-8
     returns-9
     returns-10
-    returns-11)
+    returns-11
+    returns-12)

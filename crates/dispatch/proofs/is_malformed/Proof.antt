@@ -47,6 +47,10 @@ returns-11 : tie.Need-returns-11
 unfolding isMalformed
 returns-11 c = rw (c .before .x11 .given .1)
 
+returns-12 : tie.Need-returns-12
+unfolding isMalformed
+returns-12 c = simp (c .before .before .x12 .given .1, ← c .is-naming .ensures)
+
 pub is-malformed-spec : {M : Type 1} → statement M
 is-malformed-spec =
     tie.close
@@ -62,6 +66,8 @@ is-malformed-spec =
     (λ c. search needs)
     (λ c. search needs)
     (λ c. search needs)
+    (λ c. search needs)
+    (λ c κs. search needs)
     returns
     returns-2
     returns-3
@@ -72,4 +78,5 @@ is-malformed-spec =
     returns-8
     returns-9
     returns-10
-    returns-11)
+    returns-11
+    returns-12)

@@ -47,10 +47,15 @@ returns-11 : tie.Need-returns-11
 unfolding positionOf
 returns-11 c = rw (c .before .x11 .given .1)
 
+returns-12 : tie.Need-returns-12
+unfolding positionOf
+returns-12 c = rw (c .before .x12 .given .1)
+
 pub position-spec : {M : Type 1} → statement M
 position-spec =
     tie.close
     (tie.spec
+    (λ c. search needs)
     (λ c. search needs)
     (λ c. search needs)
     (λ c. search needs)
@@ -75,4 +80,5 @@ position-spec =
     returns-8
     returns-9
     returns-10
-    returns-11)
+    returns-11
+    returns-12)
