@@ -1,18 +1,19 @@
 // What stands at a position of one lent input. src/cursor.rt has the reader that walks it.
 ghost use mathlib.Core.Path.{_≡_};
-ghost use Prim.Native.Nat.{_+_, _≤_};
+ghost use Prim.Native.Nat.{_+_, _≤_, _<_};
 ghost use lib.ListN.{length};
-ghost use Rattle.records.specs.Records.{byteAt, twoAt, fourAt, stepOf, recordOfKind, recordAt, inPlace, nextOf, nextAt};
+ghost use Rattle.records.specs.Records.{byteAt, twoAt, fourAt, objectsIn, stepOf, recordOfKind, recordAt, inPlace, nextOf, nextAt};
 
 mod cursor;
 
+use contexts::Objects;
 pub use cursor::Reader;
 pub use cursor::read_at;
 use protocol::Step;
 use records::Found;
 use records::NO_STEP;
 use records::Next;
-use records::content_length;
+use records::is_length;
 use records::kind_of;
 use records::kind_of_tag;
 use records::within;
@@ -26,7 +27,7 @@ fn byte_at(s: &[u8], i: usize) -> u8
 
 // The number of two bytes at a position, the highest first.
 fn two_at(s: &[u8], i: usize) -> u16
-    requires { ⌜ i ≤ length (now s) + 4 ⌝ }
+    requires { ⌜ i ≤ length (now s) + 14 ⌝ }
     ensures { λ r. ⌜ r ≡ twoAt (now (s .entry)) i ⌝ }
 {
     let high = byte_at(s, i);
@@ -43,8 +44,27 @@ fn four_at(s: &[u8], i: usize) -> u32
     (high as u32) * 65536 + (low as u32)
 }
 
+// The objects that a content names, two bytes each. Past its end there are zeros, so nothing stands behind the last.
+fn objects_in(content: &[u8]) -> Objects
+    requires { ⌜ length (now content) < 65536 ⌝ }
+    ensures { λ r. ⌜ r ≡ objectsIn (now (content .entry)) ⌝ }
+{
+    Objects {
+        count: (content.len() / 2) as u32,
+        first: two_at(content, 0),
+        second: two_at(content, 2),
+        third: two_at(content, 4),
+        fourth: two_at(content, 6),
+        fifth: two_at(content, 8),
+        sixth: two_at(content, 10),
+        seventh: two_at(content, 12),
+        eighth: two_at(content, 14),
+    }
+}
+
 // The step of a kind with this content.
 fn step_of(kind: usize, content: &[u8]) -> Step
+    requires { ⌜ length (now content) < 65536 ⌝ }
     ensures { λ r. ⌜ r ≡ stepOf kind (now (content .entry)) ⌝ }
 {
     match kind {
@@ -58,7 +78,8 @@ fn step_of(kind: usize, content: &[u8]) -> Step
         7 => Step::Replace(two_at(content, 0)),
         8 => Step::Tell(byte_at(content, 0)),
         9 => Step::Remove(byte_at(content, 0)),
-        _ => Step::GiveUp(two_at(content, 0)),
+        10 => Step::GiveUp(two_at(content, 0)),
+        _ => Step::BeginContext(objects_in(content)),
     }
 }
 
@@ -67,8 +88,8 @@ fn record_of_kind(kind: usize, s: &[u8], at: usize) -> Found
     requires { ⌜ at + 3 ≤ length (now s) ⌝ }
     ensures { λ r. ⌜ r ≡ recordOfKind kind (now (s .entry)) at ⌝ }
 {
-    let length = content_length(kind);
-    if two_at(s, at + 1) != length {
+    let length = two_at(s, at + 1);
+    if !is_length(kind, length) {
         return Found::Malformed;
     }
     let start = at + 3;

@@ -8,10 +8,10 @@ use native.Mathlib.Omega.{arith}
 use lib.Dec.{leb, eqb, lit<}
 use lib.ListN.{length, take, drop}
 use lib.Seq.{getD-drop, drop-drop}
-use borrow.Author.Tests.{le-leb, eq-eqb, ne-eqb, leb-true, eqb-true, eqb-false}
+use borrow.Author.Tests.{le-leb, ne-eqb, leb-true, eqb-false}
 use Rattle.protocol.specs.declared.Step.{Step}
 use Rattle.records.specs.declared.Found.{Found}
-use Rattle.records.specs.Records.{byteAt, twoAt, kindOfTag, tagOf, contentLength, stepOf, recordOfKind, recordAt, AllBytes}
+use Rattle.records.specs.Records.{byteAt, twoAt, noStep, kindOfTag, tagOf, isLength, stepOf, recordOfKind, recordAt, AllBytes}
 use Rattle.records.proofs.Table.{tag-back}
 
 -- ---- a record seen from its position
@@ -40,11 +40,11 @@ bytes-take (x ∷ l) (suc n) b (suc i) = bytes-take l n (λ j. b (suc j)) i
 -- ---- the parts
 
 -- where tag, length and room are right, a record is found
-pub found : (l : List ℕ) (at k : ℕ) → kindOfTag (byteAt l at) ≡ k → k < 11 → twoAt l (at + 1) ≡ contentLength k → at + 3 + contentLength k ≤ length l
-    → recordAt l at ≡ Found.Record (stepOf k (take (contentLength k) (drop (at + 3) l))) (at + 3 + contentLength k)
+pub found : (l : List ℕ) (at k w : ℕ) → kindOfTag (byteAt l at) ≡ k → k < 12 → twoAt l (at + 1) ≡ w → isLength k w ≡ true → at + 3 + w ≤ length l
+    → recordAt l at ≡ Found.Record (stepOf k (take w (drop (at + 3) l))) (at + 3 + w)
 unfolding recordAt recordOfKind
-found l at k tag below size room =
-    simp (le-leb (at + 3) (length l) (omega arith), tag, ne-eqb k 11 (λ e. omega arith), eq-eqb _ _ size, le-leb _ _ room)
+found l at k w tag below size allowed room =
+    simp (le-leb (at + 3) (length l) (omega arith), tag, ne-eqb k noStep (λ e. omega arith), size, allowed, le-leb _ _ room)
 
 -- a test on the way to a record
 passed : (t : Bool) (x : Found) {s : Step} {n : ℕ} → cond t x Found.Malformed ≡ Found.Record s n → (t ≡ true) × (x ≡ Found.Record s n)
@@ -55,28 +55,29 @@ not-stopped : (t : Bool) (x : Found) {s : Step} {n : ℕ} → cond t Found.Malfo
 not-stopped true x e = let z : _≡_ {A = ℕ} 0 1 = cc in absurd (omega arith)
 not-stopped false x e = (refl, e)
 
--- what stands where a record of a kind is found
-pub record Parts (l : List ℕ) (at k n : ℕ) (s : Step) : Type 0 where
-  pub below : k < 11
+-- what stands where a record of a kind is found, its content having w bytes
+pub record Parts (l : List ℕ) (at k w n : ℕ) (s : Step) : Type 0 where
+  pub below : k < 12
   pub tag : byteAt l at ≡ tagOf k
-  pub size : twoAt l (at + 1) ≡ contentLength k
-  pub room : at + 3 + contentLength k ≤ length l
-  pub step : stepOf k (take (contentLength k) (drop (at + 3) l)) ≡ s
-  pub next : at + 3 + contentLength k ≡ n
+  pub size : isLength k w ≡ true
+  pub room : at + 3 + w ≤ length l
+  pub step : stepOf k (take w (drop (at + 3) l)) ≡ s
+  pub next : at + 3 + w ≡ n
 
-pub parts : (l : List ℕ) (at n : ℕ) (s : Step) → recordAt l at ≡ Found.Record s n → Parts l at (kindOfTag (byteAt l at)) n s
+pub parts : (l : List ℕ) (at n : ℕ) (s : Step) → recordAt l at ≡ Found.Record s n → Parts l at (kindOfTag (byteAt l at)) (twoAt l (at + 1)) n s
 unfolding recordAt recordOfKind
 parts l at n s e =
     let k : ℕ = kindOfTag (byteAt l at) in
+    let w : ℕ = twoAt l (at + 1) in
     let p = passed (leb (at + 3) (length l)) _ e in
-    let q = not-stopped (eqb k 11) _ (p .1) in
-    let r = passed (eqb (twoAt l (at + 1)) (contentLength k)) _ (q .1) in
-    let t = passed (leb (at + 3 + contentLength k) (length l)) _ (r .1) in
-    let known = tag-back (byteAt l at) (eqb-false k 11 (q .0)) in
+    let q = not-stopped (eqb k noStep) _ (p .1) in
+    let r = passed (isLength k w) _ (q .1) in
+    let t = passed (leb (at + 3 + w) (length l)) _ (r .1) in
+    let known = tag-back (byteAt l at) (eqb-false k noStep (q .0)) in
     record {
       below = known .0;
       tag = sym (known .1);
-      size = eqb-true _ _ (r .0);
+      size = r .0;
       room = leb-true _ _ (t .0);
       step = cc (t .1);
       next = cc (t .1);

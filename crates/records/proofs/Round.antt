@@ -11,35 +11,37 @@ use borrow.Author.Tests.{le-leb, lt-leb, ne-eqb, leb-true, not-true}
 use Rattle.protocol.specs.declared.Step.{Step}
 use Rattle.records.specs.declared.Found.{Found}
 use Rattle.records.specs.declared.Next.{Next}
-use Rattle.records.specs.Records.{byteAt, twoAt, twoBytes, kindOfTag, tagOf, contentLength, kindOf, contentOf, headerOf, recordOf, recordAt, isStart, inPlace, nextOf, nextAt, hasRoom, writtenAt, bufferAfter, nextRefusal, writtenRefusal, AllBytes, InRange}
+use Rattle.records.specs.Records.{byteAt, twoAt, twoBytes, kindOfTag, tagOf, isLength, kindOf, contentOf, headerOf, recordOf, recordAt, isStart, inPlace, nextOf, nextAt, isWritable, hasRoom, writtenAt, bufferAfter, nextRefusal, writtenRefusal, AllBytes, InRange}
+use Rattle.records.proofs.Bytes.{two-read, two-written, first-bytes}
 use Rattle.records.proofs.Parts.{byte-from, two-from, content-from, bytes-drop, bytes-take, found, Parts, parts}
-use Rattle.records.proofs.Table.{two-read, two-written, first-bytes, row, read-as, kind-read, tag-known, record-size}
+use Rattle.records.proofs.Table.{row, read-as, kind-read, writable-read, size-read, tag-known, record-size}
 
 -- ---- written, then read
 
 -- a record is read wherever it stands
-pub read-at : (s : Step) (l r : List ℕ) (at : ℕ) → drop at l ≡ recordOf s ++ r → recordAt l at ≡ Found.Record s (at + length (recordOf s))
+pub read-at : (s : Step) (l r : List ℕ) (at : ℕ) → isWritable s ≡ true → drop at l ≡ recordOf s ++ r
+    → recordAt l at ≡ Found.Record s (at + length (recordOf s))
 unfolding recordOf headerOf twoBytes twoAt
-read-at s l r at e =
-    let t = row s in
+read-at s l r at writable e =
+    let t = row s writable in
     let k : ℕ = kindOf s in
+    let w : ℕ = length (contentOf s) in
     let tag : kindOfTag (byteAt l at) ≡ k = ap kindOfTag (byte-from l at ∙ ap (λ (m : List ℕ). byteAt m 0) e) ∙ tag-known k (t .0) in
-    let size : twoAt l (at + 1) ≡ contentLength k = two-from l at ∙ ap (λ (m : List ℕ). twoAt m 1) e ∙ two-read (contentLength k) in
-    let content : take (contentLength k) (drop (at + 3) l) ≡ contentOf s =
-    ap (take (contentLength k)) (content-from l at ∙ ap (drop 3) e) ∙ take-at (contentOf s) r (contentLength k) (t .1) in
-    let room : at + 3 + contentLength k ≤ length l = omega (arith, length-drop at l, ap length e, length-append (recordOf s) r, record-size s) in
-    let next : at + 3 + contentLength k ≡ at + length (recordOf s) = omega (arith, record-size s) in
-    found l at k tag (t .0) size room ∙ rw (content, t .2, next)
+    let size : twoAt l (at + 1) ≡ w = two-from l at ∙ ap (λ (m : List ℕ). twoAt m 1) e ∙ two-read w in
+    let content : take w (drop (at + 3) l) ≡ contentOf s = ap (take w) (content-from l at ∙ ap (drop 3) e) ∙ take-at (contentOf s) r w refl in
+    let room : at + 3 + w ≤ length l = omega (arith, length-drop at l, ap length e, length-append (recordOf s) r, record-size s) in
+    let next : at + 3 + w ≡ at + length (recordOf s) = omega (arith, record-size s) in
+    found l at k w tag (t .0) size (t .1) room ∙ rw (content, t .2, next)
 
 -- 'Reading a written record gives the step that was written', whatever stands before and after it; no range is asked of the step's numbers
-pub read-written : (s : Step) (buf : List ℕ) (at : ℕ) → hasRoom buf at s ≡ true
+pub read-written : (s : Step) (buf : List ℕ) (at : ℕ) → isWritable s ≡ true → hasRoom buf at s ≡ true
     → recordAt (bufferAfter buf at s) at ≡ Found.Record s (at + length (recordOf s))
 unfolding bufferAfter hasRoom
-read-written s buf at room =
+read-written s buf at writable room =
     let fits : at + length (recordOf s) ≤ length buf = leb-true _ _ room in
     let rest : List ℕ = drop (at + length (recordOf s)) buf in
-    rw room
-    (read-at s (take at buf ++ recordOf s ++ rest) rest at
+    rw (writable, room)
+    (read-at s (take at buf ++ recordOf s ++ rest) rest at writable
     (ap (drop at) (append-assoc (take at buf) (recordOf s) rest) ∙ drop-at (take at buf) (recordOf s ++ rest) at (length-take-le at buf (omega arith))))
 
 -- ---- read, then written
@@ -47,25 +49,30 @@ read-written s buf at room =
 slice-take : (l : List ℕ) (at n : ℕ) → at ≤ length l → slice at (at + n) l ≡ take n (drop at l)
 slice-take l at n h = ap (drop at) (take-add at n l) ∙ drop-at (take at l) (take n (drop at l)) at (length-take-le at l h)
 
--- the first three bytes are the header of the kind that was read
-header-read : (l : List ℕ) (at k n : ℕ) (s : Step) → AllBytes l → Parts l at k n s → headerOf k ≡ take 3 (drop at l)
+-- the first three bytes are the header of the kind and the length that were read
+header-read : (l : List ℕ) (at k n : ℕ) (s : Step) → AllBytes l → Parts l at k (twoAt l (at + 1)) n s → headerOf k (twoAt l (at + 1)) ≡ take 3 (drop at l)
 unfolding headerOf twoAt
 header-read l at k n s b p =
     let m : List ℕ = drop at l in
-    let room : at + 3 + contentLength k ≤ length l = p .room in
+    let room : at + 3 + twoAt l (at + 1) ≤ length l = p .room in
     let tag : tagOf k ≡ byteAt m 0 = sym (p .tag) ∙ byte-from l at in
-    let size : contentLength k ≡ twoAt m 1 = sym (p .size) ∙ two-from l at in
     let two = two-written (byteAt m 1) (byteAt m 2) (bytes-drop l at b 1) (bytes-drop l at b 2) in
-    rw (tag, size, two .0) (first-bytes m 3 (omega (arith, length-drop at l)))
+    rw (tag, two-from l at, two .0) (first-bytes m 3 (omega (arith, length-drop at l)))
+
+-- the content that stands there has a length of its kind
+content-size : (l : List ℕ) (at k w n : ℕ) (s : Step) → Parts l at k w n s
+    → (length (take w (drop (at + 3) l)) ≡ w) × (isLength k (length (take w (drop (at + 3) l))) ≡ true)
+content-size l at k w n s p =
+    let room : at + 3 + w ≤ length l = p .room in
+    let sized : length (take w (drop (at + 3) l)) ≡ w = length-take-le w (drop (at + 3) l) (omega (arith, length-drop (at + 3) l)) in
+    (sized, ap (isLength k) sized ∙ p .size)
 
 -- the step that was read has the kind and the content that stand there, and its numbers fit
-step-read : (l : List ℕ) (at k n : ℕ) (s : Step) → AllBytes l → Parts l at k n s
-    → (kindOf s ≡ k) × (contentOf s ≡ take (contentLength k) (drop (at + 3) l)) × InRange s
-step-read l at k n s b p =
-    let c : List ℕ = take (contentLength k) (drop (at + 3) l) in
-    let room : at + 3 + contentLength k ≤ length l = p .room in
-    let sized : length c ≡ contentLength k = length-take-le (contentLength k) (drop (at + 3) l) (omega (arith, length-drop (at + 3) l)) in
-    let r = read-as k (p .below) c sized (bytes-take (drop (at + 3) l) (contentLength k) (bytes-drop l (at + 3) b)) in
+step-read : (l : List ℕ) (at k w n : ℕ) (s : Step) → AllBytes l → Parts l at k w n s
+    → (kindOf s ≡ k) × (contentOf s ≡ take w (drop (at + 3) l)) × InRange s
+step-read l at k w n s b p =
+    let c : List ℕ = take w (drop (at + 3) l) in
+    let r = read-as k (p .below) c (content-size l at k w n s p .1) (bytes-take (drop (at + 3) l) w (bytes-drop l (at + 3) b)) in
     rw (← p .step) (kind-read k (p .below) c, r .0, r .1)
 
 -- 'writing the step read gives the record's bytes'
@@ -73,26 +80,35 @@ pub written-read : (l : List ℕ) (at n : ℕ) (s : Step) → AllBytes l → rec
 unfolding recordOf
 written-read l at n s b e =
     let k : ℕ = kindOfTag (byteAt l at) in
-    let w : ℕ = contentLength k in
+    let w : ℕ = twoAt l (at + 1) in
     let p = parts l at n s e in
-    let r = step-read l at k n s b p in
+    let r = step-read l at k w n s b p in
     let room : at + 3 + w ≤ length l = p .room in
     let end : n ≡ at + (3 + w) = omega (arith, p .next) in
-    rw (r .0, r .1, header-read l at k n s b p, content-from l at, ← take-add 3 w (drop at l), end, slice-take l at (3 + w) (omega arith))
+    let sized : length (contentOf s) ≡ w = ap length (r .1) ∙ content-size l at k w n s p .0 in
+    rw (sized, r .0, r .1, header-read l at k n s b p, content-from l at, ← take-add 3 w (drop at l), end, slice-take l at (3 + w) (omega arith))
 
 -- a step that is read has numbers that fit
 pub in-range : (l : List ℕ) (at n : ℕ) (s : Step) → AllBytes l → recordAt l at ≡ Found.Record s n → InRange s
-in-range l at n s b e = step-read l at _ n s b (parts l at n s e) .2
+in-range l at n s b e = step-read l at _ _ n s b (parts l at n s e) .2
+
+-- a step that is read can be written
+pub read-writable : (l : List ℕ) (at n : ℕ) (s : Step) → recordAt l at ≡ Found.Record s n → isWritable s ≡ true
+read-writable l at n s e =
+    let p = parts l at n s e in
+    rw (← p .step) (writable-read _ (p .below) _ (content-size l at _ _ n s p .1))
 
 -- the next position is past the record, and within the input
 pub next-position : (l : List ℕ) (at n : ℕ) (s : Step) → recordAt l at ≡ Found.Record s n → (n ≡ at + length (recordOf s)) × (at < n) × (n ≤ length l)
 next-position l at n s e =
     let k : ℕ = kindOfTag (byteAt l at) in
+    let w : ℕ = twoAt l (at + 1) in
     let p = parts l at n s e in
-    let next : at + 3 + contentLength k ≡ n = p .next in
-    let room : at + 3 + contentLength k ≤ length l = p .room in
-    let kind : kindOf s ≡ k = rw (← p .step) (kind-read k (p .below) (take (contentLength k) (drop (at + 3) l))) in
-    let size : length (recordOf s) ≡ 3 + contentLength k = record-size s ∙ ap (λ (i : ℕ). 3 + contentLength i) kind in
+    let next : at + 3 + w ≡ n = p .next in
+    let room : at + 3 + w ≤ length l = p .room in
+    let q = content-size l at k w n s p in
+    let sized : length (contentOf s) ≡ w = rw (← p .step) (size-read k (p .below) (take w (drop (at + 3) l)) (q .1) ∙ q .0) in
+    let size : length (recordOf s) ≡ 3 + w = record-size s ∙ ap (λ (i : ℕ). 3 + i) sized in
     (omega arith, omega arith, omega arith)
 
 -- so the step read, written where it was read, leaves the input as it was
@@ -103,7 +119,7 @@ rewritten l at n s b e =
     let end : at + length (recordOf s) ≡ n = sym (p .0) in
     let bytes : recordOf s ≡ take (length (recordOf s)) (drop at l) =
     written-read l at n s b e ∙ ap (λ (i : ℕ). slice at i l) (p .0) ∙ slice-take l at (length (recordOf s)) (omega arith) in
-    rw (le-leb (at + length (recordOf s)) (length l) (omega arith))
+    rw (read-writable l at n s e, le-leb (at + length (recordOf s)) (length l) (omega arith))
     (ap (λ (r : List ℕ). take at l ++ r ++ drop (at + length (recordOf s)) l) bytes ∙
     rw (← take-add at (length (recordOf s)) l) (take-append-drop (at + length (recordOf s)) l))
 
@@ -186,7 +202,13 @@ next-empty = refl
 pub malformed-is-1 : (l : List ℕ) (at : ℕ) → nextAt l at ≡ Next.Malformed → nextRefusal (nextAt l at) ≡ 1
 malformed-is-1 l at e = rw e
 
-pub too-short-is-15 : (buf : List ℕ) (at : ℕ) (s : Step) → length buf < at + length (recordOf s)
+-- Req 02: a step with another number of objects is refused with 1, whatever the buffer's length; another step, with 15 where there is no room
+pub unwritable-is-1 : (buf : List ℕ) (at : ℕ) (s : Step) → isWritable s ≡ false → (writtenRefusal (writtenAt buf at s) ≡ 1) × (bufferAfter buf at s ≡ buf)
+unfolding writtenAt bufferAfter
+unwritable-is-1 buf at s e = (rw e, rw e)
+
+pub too-short-is-15 : (buf : List ℕ) (at : ℕ) (s : Step) → isWritable s ≡ true → length buf < at + length (recordOf s)
     → (writtenRefusal (writtenAt buf at s) ≡ 15) × (bufferAfter buf at s ≡ buf)
 unfolding writtenAt bufferAfter hasRoom
-too-short-is-15 buf at s h = let none = lt-leb (at + length (recordOf s)) (length buf) h in (rw none, rw none)
+too-short-is-15 buf at s writable h =
+    let none = lt-leb (at + length (recordOf s)) (length buf) h in (rw (writable, none), rw (writable, none))

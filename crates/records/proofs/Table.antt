@@ -1,17 +1,21 @@
--- The table of the steps, row by row: a content is as long as the table says, is read back as it was written, and written back as
+-- The table of the steps, row by row: a content has a length of its kind, is read back as it was written, and written back as
 -- it was read; and so is a tag.
-use mathlib.Core.Path.{_≡_, refl, sym, ap, _∙_}
-use mathlib.Core.Bool.{Bool, true, false, cond, false≢true}
+use mathlib.Core.Path.{_≡_, refl, sym, ap, _∙_, subst}
+use mathlib.Core.Bool.{Bool, true, false, cond}
 use mathlib.Core.List.{List, [], _∷_, _++_}
-use Prim.Native.Nat.{ℕ, zero, suc, _+_, _*_, _/_, _%_, _<_, _≤_}
+use Prim.Native.Nat.{ℕ, zero, suc, _+_, _<_, _≤_}
 use native.Mathlib.Omega.{arith}
 use lib.Dec.{leb, eqb, lit<}
-use lib.ListN.{length, take}
-use lib.Seq.{take-all}
-use borrow.Author.Tests.{leb-true, eqb-true}
+use lib.ListN.{length}
+use borrow.Author.Tests.{leb-true, eqb-true, eqb-false, ne-eqb}
+use denote.Enum.Declared.{tagOf as variantOf}
+use types.Run.{OneOf, miss}
+use Rattle.protocol.proofs.Step as step
 use Rattle.protocol.specs.declared.Step.{Step}
-use Rattle.protocol.specs.declared.Step.the-variants.{Start, BeginRead, BeginWrite, Deliver, Lose, Repeat, Advance, Replace, Tell, Remove, GiveUp}
-use Rattle.records.specs.Records.{byteAt, twoAt, fourAt, twoBytes, fourBytes, kindOfTag, tagOf, contentLength, kindOf, contentOf, headerOf, recordOf, stepOf, AllBytes, InRange}
+use Rattle.protocol.specs.declared.Step.the-variants.{Start, BeginRead, BeginWrite, Deliver, Lose, Repeat, Advance, Replace, Tell, Remove, GiveUp, BeginContext}
+use Rattle.records.specs.Records.{byteAt, twoAt, fourAt, twoBytes, fourBytes, noStep, kindOfTag, tagOf, contentLength, isLength, kindOf, contentOf, headerOf, recordOf, stepOf, isWritable, AllBytes, InRange}
+use Rattle.records.proofs.Bytes.{both, two-read, four-read, two-written, four-written, all-bytes}
+use Rattle.records.proofs.Contexts.{length-within, objects-length, objects-read, objects-written, objects-naming, objects-kept}
 
 -- ---- a claim of every kind
 
@@ -30,72 +34,62 @@ abbrev all : ℕ → (ℕ → Bool) → Bool
 all zero f = true
 all (suc n) f = cond (f 0) (all n (λ k. f (suc k))) false
 
-both : (a b : Bool) → cond a b false ≡ true → (a ≡ true) × (b ≡ true)
-both true b e = (refl, e)
-both false b e = absurd (false≢true e)
-
 tested : (n : ℕ) (f : ℕ → Bool) → all n f ≡ true → (k : ℕ) → k < n → f k ≡ true
 tested zero f e k h = absurd (omega arith)
 tested (suc n) f e zero h = both (f 0) (all n (λ k. f (suc k))) e .0
 tested (suc n) f e (suc k) h = tested n (λ i. f (suc i)) (both (f 0) (all n (λ k. f (suc k))) e .1) k (omega arith)
 
+-- a claim of the kinds in the table of lengths, and of the one beside it
+by-kind : (P : ℕ → Type 0) → ((k : ℕ) → k < 11 → P k) → P 11 → (k : ℕ) → k < 12 → P k
+by-kind P table context k h = go (eqb k 11) refl
+  where
+    go : (t : Bool) → eqb k 11 ≡ t → P k
+    go true e = subst P (sym (eqb-true k 11 e)) context
+    go false e = table k (omega (arith, eqb-false k 11 e))
+
+-- ---- lengths
+
+-- a kind in the table has the length that stands there
+table-length : (k : ℕ) → k < 11 → (n : ℕ) → isLength k n ≡ true → n ≡ contentLength k
+unfolding isLength
+table-length k h n e = eqb-true n (contentLength k) (rw (ne-eqb k 11 (λ q. omega arith)) at e)
+
+table-short : (k : ℕ) → k < 11 → (1 ≤ contentLength k) × (contentLength k ≤ 16)
+unfolding contentLength
+table-short k h = (leb-true _ _ (tested 11 (λ k. leb 1 (contentLength k)) refl k h), leb-true _ _ (tested 11 (λ k. leb (contentLength k) 16) refl k h))
+
+-- no content is empty, and none is longer than eight objects
+length-bounds : (k : ℕ) → k < 12 → (n : ℕ) → isLength k n ≡ true → (1 ≤ n) × (n ≤ 16)
+unfolding isLength
+length-bounds =
+    by-kind (λ k. (n : ℕ) → isLength k n ≡ true → (1 ≤ n) × (n ≤ 16))
+    (λ k h n e. let q = table-length k h n e in let s = table-short k h in (omega arith, omega arith))
+    (λ n e. let w = length-within n e in (omega arith, w .1))
+
 -- ---- writing, then reading
 
-pub two-read : (a : ℕ) → a / 256 * 256 + a % 256 ≡ a
-two-read a = omega arith
-
-four-read : (a : ℕ) → (a / 65536 / 256 * 256 + a / 65536 % 256) * 65536 + (a % 65536 / 256 * 256 + a % 65536 % 256) ≡ a
-four-read a = omega arith
-
--- the row of the table that a step has: the content has its length, and is read as the step
+-- the row of the table that a step has: the content has a length of its kind, and is read as the step
 abbrev Row : Step → Type 0
-Row s = (kindOf s < 11) × (length (contentOf s) ≡ contentLength (kindOf s)) × (stepOf (kindOf s) (contentOf s) ≡ s)
+Row s = (kindOf s < 12) × (isLength (kindOf s) (length (contentOf s)) ≡ true) × (stepOf (kindOf s) (contentOf s) ≡ s)
 
-pub row : (s : Step) → Row s
-unfolding twoBytes fourBytes twoAt fourAt contentLength stepOf
-row (Start n) = (lit< tt, refl, refl)
-row (BeginRead object) = (lit< tt, refl, ap BeginRead (two-read object))
-row (BeginWrite object value) = (lit< tt, refl, ap (λ (a : ℕ). BeginWrite a _) (two-read object) ∙ ap (BeginWrite object) (four-read value))
-row (Deliver position choice) = (lit< tt, refl, ap (λ (a : ℕ). Deliver a choice) (two-read position))
-row (Lose position) = (lit< tt, refl, ap Lose (two-read position))
-row (Repeat position) = (lit< tt, refl, ap Repeat (two-read position))
-row (Advance replica) = (lit< tt, refl, refl)
-row (Replace number) = (lit< tt, refl, ap Replace (two-read number))
-row (Tell replica) = (lit< tt, refl, refl)
-row (Remove replica) = (lit< tt, refl, refl)
-row (GiveUp operation) = (lit< tt, refl, ap GiveUp (two-read operation))
+pub row : (s : Step) → isWritable s ≡ true → Row s
+unfolding twoBytes fourBytes twoAt fourAt contentLength isLength stepOf
+row (Start n) w = (lit< tt, refl, refl)
+row (BeginRead object) w = (lit< tt, refl, ap BeginRead (two-read object))
+row (BeginWrite object value) w = (lit< tt, refl, λ j. BeginWrite (two-read object j) (four-read value j))
+row (Deliver position choice) w = (lit< tt, refl, ap (λ (a : ℕ). Deliver a choice) (two-read position))
+row (Lose position) w = (lit< tt, refl, ap Lose (two-read position))
+row (Repeat position) w = (lit< tt, refl, ap Repeat (two-read position))
+row (Advance replica) w = (lit< tt, refl, refl)
+row (Replace number) w = (lit< tt, refl, ap Replace (two-read number))
+row (Tell replica) w = (lit< tt, refl, refl)
+row (Remove replica) w = (lit< tt, refl, refl)
+row (GiveUp operation) w = (lit< tt, refl, ap GiveUp (two-read operation))
+row (BeginContext x) w = (lit< tt, objects-length x w, ap BeginContext (objects-read x w))
 
 -- ---- reading, then writing
 
--- a number read from bytes is written as these bytes, and fits
-pub two-written : (a b : ℕ) → a < 256 → b < 256 → (twoBytes (a * 256 + b) ≡ a ∷ b ∷ []) × (a * 256 + b < 65536)
-unfolding twoBytes
-two-written a b h g =
-    let x : (a * 256 + b) / 256 ≡ a = omega arith in
-    let y : (a * 256 + b) % 256 ≡ b = omega arith in
-    (rw (x, y), omega arith)
-
-four-written : (a b : ℕ) → a < 65536 → b < 65536 → (fourBytes (a * 65536 + b) ≡ twoBytes a ++ twoBytes b) × (a * 65536 + b < 4294967296)
-unfolding fourBytes
-four-written a b h g =
-    let x : (a * 65536 + b) / 65536 ≡ a = omega arith in
-    let y : (a * 65536 + b) % 65536 ≡ b = omega arith in
-    (rw (x, y), omega arith)
-
--- the first n bytes, one by one
-abbrev upTo : ℕ → (ℕ → ℕ) → List ℕ
-upTo zero f = []
-upTo (suc n) f = f 0 ∷ upTo n (λ i. f (suc i))
-
-pub first-bytes : (l : List ℕ) (n : ℕ) → n ≤ length l → upTo n (byteAt l) ≡ take n l
-first-bytes l zero h = refl
-first-bytes [] (suc n) h = absurd (omega arith)
-first-bytes (x ∷ l) (suc n) h = ap (λ (r : List ℕ). x ∷ r) (first-bytes l n (omega arith))
-
-all-bytes : (c : List ℕ) (n : ℕ) → length c ≡ n → upTo n (byteAt c) ≡ c
-all-bytes c n h = first-bytes c n (omega arith) ∙ take-all n c (omega arith)
-
--- the same for a content of each shape: one byte, two bytes, two and one, two and four
+-- a content of each shape, read as numbers, is written as it was: one byte, two bytes, two and one, two and four
 one-byte : (c : List ℕ) → length c ≡ 1 → AllBytes c → (byteAt c 0 ∷ [] ≡ c) × (byteAt c 0 < 256)
 one-byte c h b = (all-bytes c 1 h, b 0)
 
@@ -117,54 +111,97 @@ two-and-four c h b =
     let f = four-written (twoAt c 2) (twoAt c 4) (p .1) (q .1) in
     (rw (t .0, f .0, p .0, q .0) (all-bytes c 6 h), (t .1, f .1))
 
--- a content of the table's length, read as a step: the step has that content and that kind, and its numbers fit
-abbrev ReadAs : ℕ → Type 0
-ReadAs k = (c : List ℕ) → length c ≡ contentLength k → AllBytes c → (contentOf (stepOf k c) ≡ c) × InRange (stepOf k c)
+-- a content of the table's length, read as a step: the step has that content, and its numbers fit
+abbrev TableRead : ℕ → Type 0
+TableRead k = (c : List ℕ) → length c ≡ contentLength k → AllBytes c → (contentOf (stepOf k c) ≡ c) × InRange (stepOf k c)
 
-pub read-as : (k : ℕ) → k < 11 → ReadAs k
+table-read : (k : ℕ) → k < 11 → TableRead k
 unfolding contentLength stepOf
-read-as =
-    each 11 ReadAs
+table-read =
+    each 11 TableRead
     (one-byte, (two-bytes, (two-and-four, (two-and-one, (two-bytes, (two-bytes, (one-byte, (two-bytes, (one-byte, (one-byte, (two-bytes, tt)))))))))))
 
-pub kind-read : (k : ℕ) → k < 11 → (c : List ℕ) → kindOf (stepOf k c) ≡ k
+-- the same for every kind
+abbrev ReadAs : ℕ → Type 0
+ReadAs k = (c : List ℕ) → isLength k (length c) ≡ true → AllBytes c → (contentOf (stepOf k c) ≡ c) × InRange (stepOf k c)
+
+pub read-as : (k : ℕ) → k < 12 → ReadAs k
+unfolding isLength stepOf
+read-as = by-kind ReadAs (λ k h c e. table-read k h c (table-length k h (length c) e)) objects-written
+
+pub kind-read : (k : ℕ) → k < 12 → (c : List ℕ) → kindOf (stepOf k c) ≡ k
 unfolding stepOf
-kind-read k h c = eqb-true _ _ (tested 11 (λ k. eqb (kindOf (stepOf k c)) k) refl k h)
+kind-read k h c = eqb-true _ _ (tested 12 (λ k. eqb (kindOf (stepOf k c)) k) refl k h)
+
+-- whatever the bytes are, the step can be written, and has as many
+pub writable-read : (k : ℕ) → k < 12 → (c : List ℕ) → isLength k (length c) ≡ true → isWritable (stepOf k c) ≡ true
+unfolding isLength stepOf
+writable-read =
+    by-kind (λ k. (c : List ℕ) → isLength k (length c) ≡ true → isWritable (stepOf k c) ≡ true)
+    (λ k h c e. tested 11 (λ k. isWritable (stepOf k c)) refl k h)
+    objects-naming
+
+pub size-read : (k : ℕ) → k < 12 → (c : List ℕ) → isLength k (length c) ≡ true → length (contentOf (stepOf k c)) ≡ length c
+unfolding isLength stepOf
+size-read =
+    by-kind (λ k. (c : List ℕ) → isLength k (length c) ≡ true → length (contentOf (stepOf k c)) ≡ length c)
+    (λ k h c e.
+    let below : k < 12 = omega arith in
+    let s : Step = stepOf k c in
+    let size = row s (writable-read k below c e) .1 in
+    table-length k h (length (contentOf s)) (ap (λ (i : ℕ). isLength i (length (contentOf s))) (sym (kind-read k below c)) ∙ size) ∙
+    sym (table-length k h (length c) e))
+    objects-kept
 
 -- ---- tags
 
 -- the tag of a kind names it
-pub tag-known : (k : ℕ) → k < 11 → kindOfTag (tagOf k) ≡ k
+pub tag-known : (k : ℕ) → k < 12 → kindOfTag (tagOf k) ≡ k
 unfolding kindOfTag tagOf
-tag-known k h = eqb-true _ _ (tested 11 (λ k. eqb (kindOfTag (tagOf k)) k) refl k h)
+tag-known k h = eqb-true _ _ (tested 12 (λ k. eqb (kindOfTag (tagOf k)) k) refl k h)
 
 -- a tag that names a step is the tag of that step's kind
-pub tag-back : (t : ℕ) → (kindOfTag t ≡ 11 → ⊥) → (kindOfTag t < 11) × (tagOf (kindOfTag t) ≡ t)
+pub tag-back : (t : ℕ) → (kindOfTag t ≡ noStep → ⊥) → (kindOfTag t < 12) × (tagOf (kindOfTag t) ≡ t)
 unfolding kindOfTag tagOf
-tag-back t known = go (eqb t 32) (leb 1 t) (leb t 10) refl refl refl
+tag-back t known = go (eqb t 32) (leb 1 t) (leb t 11) refl refl refl
   where
-    go : (a b c : Bool) → eqb t 32 ≡ a → leb 1 t ≡ b → leb t 10 ≡ c → (kindOfTag t < 11) × (tagOf (kindOfTag t) ≡ t)
+    go : (a b c : Bool) → eqb t 32 ≡ a → leb 1 t ≡ b → leb t 11 ≡ c → (kindOfTag t < 12) × (tagOf (kindOfTag t) ≡ t)
     go true b c p q r = (rw p (lit< tt), rw p (sym (eqb-true t 32 p)))
-    go false true true p q r = (rw (p, q, r) (omega (arith, leb-true t 10 r)), simp (p, q, r))
+    go false true true p q r = (rw (p, q, r) (omega (arith, leb-true t 11 r)), simp (p, q, r))
     go false true false p q r = absurd (known (simp (p, q, r)))
     go false false c p q r = absurd (known (simp (p, q)))
 
 -- ---- how long a record is
 
-pub record-size : (s : Step) → length (recordOf s) ≡ 3 + contentLength (kindOf s)
+pub record-size : (s : Step) → length (recordOf s) ≡ 3 + length (contentOf s)
 unfolding recordOf headerOf twoBytes
-record-size s = let t = row s in omega (arith, t .1)
+record-size s = omega arith
 
-short : (k : ℕ) → k < 11 → contentLength k ≤ 6
-unfolding contentLength
-short k h = leb-true _ _ (tested 11 (λ k. leb (contentLength k) 6) refl k h)
+content-bounds : (s : Step) → isWritable s ≡ true → (1 ≤ length (contentOf s)) × (length (contentOf s) ≤ 16)
+content-bounds s w = let t = row s w in length-bounds (kindOf s) (t .0) (length (contentOf s)) (t .1)
 
-pub record-short : (s : Step) → length (recordOf s) ≤ 9
-record-short s = omega (arith, record-size s, short (kindOf s) (row s .0))
+pub record-short : (s : Step) → isWritable s ≡ true → length (recordOf s) ≤ 19
+record-short s w = let b = content-bounds s w in omega (arith, record-size s)
 
-long : (k : ℕ) → k < 11 → 1 ≤ contentLength k
-unfolding contentLength
-long k h = leb-true _ _ (tested 11 (λ k. leb 1 (contentLength k)) refl k h)
+pub record-long : (s : Step) → isWritable s ≡ true → 4 ≤ length (recordOf s)
+record-long s w = let b = content-bounds s w in omega (arith, record-size s)
 
-pub record-long : (s : Step) → 4 ≤ length (recordOf s)
-record-long s = omega (arith, record-size s, long (kindOf s) (row s .0))
+-- ---- the variants in the table of lengths: every step but a read of a whole context
+
+abbrev variants : List ℕ
+variants = 0 ∷ 1 ∷ 2 ∷ 3 ∷ 4 ∷ 5 ∷ 6 ∷ 7 ∷ 8 ∷ 9 ∷ 10 ∷ []
+
+pub in-table : (s : Step) → OneOf variants (variantOf step.the-type s) → (isWritable s ≡ true) × (length (contentOf s) ≡ contentLength (kindOf s))
+unfolding twoBytes fourBytes contentLength
+in-table (Start n) i = (refl, refl)
+in-table (BeginRead object) i = (refl, refl)
+in-table (BeginWrite object value) i = (refl, refl)
+in-table (Deliver position choice) i = (refl, refl)
+in-table (Lose position) i = (refl, refl)
+in-table (Repeat position) i = (refl, refl)
+in-table (Advance replica) i = (refl, refl)
+in-table (Replace number) i = (refl, refl)
+in-table (Tell replica) i = (refl, refl)
+in-table (Remove replica) i = (refl, refl)
+in-table (GiveUp operation) i = (refl, refl)
+in-table (BeginContext x) i = absurd (miss variants 11 tt i)

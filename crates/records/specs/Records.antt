@@ -4,10 +4,12 @@ use mathlib.Core.List.{List, [], _∷_, _++_}
 use Prim.Native.Nat.{ℕ, _+_, _*_, _/_, _%_, _<_}
 use lib.Dec.{leb, eqb}
 use lib.ListN.{length, getD, take, drop}
+use Rattle.contexts.specs.declared.Objects.{Objects}
+use Rattle.contexts.specs.{isCount, isNaming}
 use Rattle.protocol.specs.Answers.{refusalNumber}
 use Rattle.protocol.specs.declared.Refusal.{Refusal}
 use Rattle.protocol.specs.declared.Step.{Step}
-use Rattle.protocol.specs.declared.Step.the-variants.{Start, BeginRead, BeginWrite, Deliver, Lose, Repeat, Advance, Replace, Tell, Remove, GiveUp}
+use Rattle.protocol.specs.declared.Step.the-variants.{Start, BeginRead, BeginWrite, Deliver, Lose, Repeat, Advance, Replace, Tell, Remove, GiveUp, BeginContext}
 use Rattle.records.specs.declared.Found.{Found}
 use Rattle.records.specs.declared.Next.{Next}
 use Rattle.records.specs.declared.Written.{Written}
@@ -32,19 +34,23 @@ twoAt l i = byteAt l i * 256 + byteAt l (i + 1)
 unfoldable pub fourAt : List ℕ → ℕ → ℕ
 fourAt l i = twoAt l i * 65536 + twoAt l (i + 2)
 
--- ---- the kinds of step: 0 is the start, and 1 to 10 have their tags' numbers
+-- ---- the kinds of step: 0 is the start, and 1 to 11 have their tags' numbers
+
+-- Req 02: a read of a whole context
+abbrev pub contextKind : ℕ
+contextKind = 11
 
 -- stands for no step
 abbrev pub noStep : ℕ
-noStep = 11
+noStep = 12
 
 -- the column 'Tag', read: a tag that is not in it is unknown
 unfoldable pub kindOfTag : ℕ → ℕ
-kindOfTag t = cond (eqb t 32) 0 (cond (leb 1 t) (cond (leb t 10) t noStep) noStep)
+kindOfTag t = cond (eqb t 32) 0 (cond (leb 1 t) (cond (leb t 11) t noStep) noStep)
 
 -- the column 'Tag', written
 unfoldable pub tagOf : ℕ → ℕ
-tagOf k = cond (leb 1 k) (cond (leb k 10) k 32) 32
+tagOf k = cond (leb 1 k) (cond (leb k 11) k 32) 32
 
 -- the column 'Length'
 abbrev pub lengths : List ℕ
@@ -52,6 +58,14 @@ lengths = 1 ∷ 2 ∷ 6 ∷ 3 ∷ 2 ∷ 2 ∷ 1 ∷ 2 ∷ 1 ∷ 1 ∷ 2 ∷ []
 
 unfoldable pub contentLength : ℕ → ℕ
 contentLength k = getD lengths k 0
+
+-- Req 02: 'a read of 2 to 8 objects, two bytes each; another length .. is refusal 1'
+unfoldable pub isContextLength : ℕ → Bool
+isContextLength n = cond (eqb (n % 2) 0) (isCount (n / 2)) false
+
+-- the content of a record of this kind can have this length
+unfoldable pub isLength : ℕ → ℕ → Bool
+isLength k n = cond (eqb k contextKind) (isContextLength n) (eqb n (contentLength k))
 
 -- the kind of each step
 abbrev pub kindOf : Step → ℕ
@@ -66,8 +80,19 @@ kindOf (Replace number) = 7
 kindOf (Tell replica) = 8
 kindOf (Remove replica) = 9
 kindOf (GiveUp operation) = 10
+kindOf (BeginContext objects) = contextKind
 
 -- ---- a step as bytes
+
+-- two bytes for each of the eight places
+abbrev pub placeBytes : Objects → List ℕ
+placeBytes x =
+    twoBytes (x .first) ++ twoBytes (x .second) ++ twoBytes (x .third) ++ twoBytes (x .fourth) ++
+    twoBytes (x .fifth) ++ twoBytes (x .sixth) ++ twoBytes (x .seventh) ++ twoBytes (x .eighth)
+
+-- Req 02: the objects that are read, 'two bytes each'
+unfoldable pub objectBytes : Objects → List ℕ
+objectBytes x = take (2 * x .count) (placeBytes x)
 
 -- the column 'Content and effect': what stands in the content
 abbrev pub contentOf : Step → List ℕ
@@ -82,16 +107,31 @@ contentOf (Replace number) = twoBytes number
 contentOf (Tell replica) = replica ∷ []
 contentOf (Remove replica) = replica ∷ []
 contentOf (GiveUp operation) = twoBytes operation
+contentOf (BeginContext x) = objectBytes x
 
 -- 'a one-byte tag, a two-byte length'
-unfoldable pub headerOf : ℕ → List ℕ
-headerOf k = tagOf k ∷ twoBytes (contentLength k)
+unfoldable pub headerOf : ℕ → ℕ → List ℕ
+headerOf k n = tagOf k ∷ twoBytes n
 
 -- 'A record is a one-byte tag, a two-byte length, the content.'
 unfoldable pub recordOf : Step → List ℕ
-recordOf s = headerOf (kindOf s) ++ contentOf s
+recordOf s = headerOf (kindOf s) (length (contentOf s)) ++ contentOf s
 
 -- ---- bytes as a step
+
+-- the objects that a content names: nothing stands behind the last
+unfoldable pub objectsIn : List ℕ → Objects
+objectsIn c = record {
+  count = length c / 2;
+  first = twoAt c 0;
+  second = twoAt c 2;
+  third = twoAt c 4;
+  fourth = twoAt c 6;
+  fifth = twoAt c 8;
+  sixth = twoAt c 10;
+  seventh = twoAt c 12;
+  eighth = twoAt c 14;
+}
 
 -- the step of a kind, its content being read as it is written
 unfoldable pub stepOf : ℕ → List ℕ → Step
@@ -105,14 +145,15 @@ stepOf k c =
     (cond (eqb k 6) (Advance (byteAt c 0))
     (cond (eqb k 7) (Replace (twoAt c 0))
     (cond (eqb k 8) (Tell (byteAt c 0))
-    (cond (eqb k 9) (Remove (byteAt c 0)) (GiveUp (twoAt c 0)))))))))))
+    (cond (eqb k 9) (Remove (byteAt c 0))
+    (cond (eqb k 10) (GiveUp (twoAt c 0)) (BeginContext (objectsIn c))))))))))))
 
 -- the record of a kind whose tag is at the position; refusal 1: 'wrong length, input ends early'
 unfoldable pub recordOfKind : ℕ → List ℕ → ℕ → Found
 recordOfKind k l at =
-    cond (eqb (twoAt l (at + 1)) (contentLength k))
-    (cond (leb (at + 3 + contentLength k) (length l))
-    (Found.Record (stepOf k (take (contentLength k) (drop (at + 3) l))) (at + 3 + contentLength k))
+    cond (isLength k (twoAt l (at + 1)))
+    (cond (leb (at + 3 + twoAt l (at + 1)) (length l))
+    (Found.Record (stepOf k (take (twoAt l (at + 1)) (drop (at + 3) l))) (at + 3 + twoAt l (at + 1)))
     Found.Malformed)
     Found.Malformed
 
@@ -142,17 +183,33 @@ nextAt l at = cond (eqb at 0) (nextOf true (recordAt l at)) (cond (leb (length l
 
 -- ---- the writer
 
+-- Req 02: 'another number of objects in a step to be .. written, is refusal 1, before .. 15'
+abbrev pub isWritable : Step → Bool
+isWritable (Start n) = true
+isWritable (BeginRead object) = true
+isWritable (BeginWrite object value) = true
+isWritable (Deliver position choice) = true
+isWritable (Lose position) = true
+isWritable (Repeat position) = true
+isWritable (Advance replica) = true
+isWritable (Replace number) = true
+isWritable (Tell replica) = true
+isWritable (Remove replica) = true
+isWritable (GiveUp operation) = true
+isWritable (BeginContext x) = isNaming x
+
 -- the record has room in the buffer at the position
 unfoldable pub hasRoom : List ℕ → ℕ → Step → Bool
 hasRoom buf at s = leb (at + length (recordOf s)) (length buf)
 
 -- refusal 15: 'lent buffer shorter than the record to write'
 unfoldable pub writtenAt : List ℕ → ℕ → Step → Written
-writtenAt buf at s = cond (hasRoom buf at s) (Written.Bytes (length (recordOf s))) Written.TooShort
+writtenAt buf at s = cond (isWritable s) (cond (hasRoom buf at s) (Written.Bytes (length (recordOf s))) Written.TooShort) Written.Malformed
 
 -- 'A writer changes no byte of its buffer beyond the record', and none at all where it is turned down
 unfoldable pub bufferAfter : List ℕ → ℕ → Step → List ℕ
-bufferAfter buf at s = cond (hasRoom buf at s) (take at buf ++ recordOf s ++ drop (at + length (recordOf s)) buf) buf
+bufferAfter buf at s =
+    cond (isWritable s) (cond (hasRoom buf at s) (take at buf ++ recordOf s ++ drop (at + length (recordOf s)) buf) buf) buf
 
 -- ---- 'Turned down': the number of the refusal that an answer is, 0 for none
 
@@ -164,6 +221,7 @@ nextRefusal Next.Malformed = refusalNumber Refusal.Format
 abbrev pub writtenRefusal : Written → ℕ
 writtenRefusal (Written.Bytes n) = 0
 writtenRefusal Written.TooShort = refusalNumber Refusal.BufferTooShort
+writtenRefusal Written.Malformed = refusalNumber Refusal.Format
 
 -- ---- numbers that fit their types
 
@@ -184,3 +242,5 @@ InRange (Replace number) = number < 65536
 InRange (Tell replica) = replica < 256
 InRange (Remove replica) = replica < 256
 InRange (GiveUp operation) = operation < 65536
+InRange (BeginContext x) =
+    (x .first < 65536) × (x .second < 65536) × (x .third < 65536) × (x .fourth < 65536) × (x .fifth < 65536) × (x .sixth < 65536) × (x .seventh < 65536) × (x .eighth < 65536)

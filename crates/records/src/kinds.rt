@@ -1,14 +1,18 @@
-// The table of document 01, 'Steps and their records', by kinds of step: 0 is the start, and 1 to 10 have their tags' numbers.
+// The table of document 01, 'Steps and their records', by kinds of step: 0 is the start, and 1 to 11 have their tags' numbers.
 ghost use mathlib.Core.Path.{_≡_};
-ghost use Rattle.records.specs.Records.{kindOfTag, tagOf, contentLength, kindOf};
+ghost use Rattle.records.specs.Records.{kindOfTag, tagOf, contentLength, isContextLength, isLength, kindOf};
 use protocol::Step;
 
+// The kinds whose content has one length.
 const KINDS: usize = 11;
 
-// Stands for no step.
-pub const NO_STEP: usize = KINDS;
+// Req 02: a read of a whole context.
+pub const CONTEXT_KIND: usize = 11;
 
-// The length of the content for each kind of step, for reader and writer.
+// Stands for no step.
+pub const NO_STEP: usize = 12;
+
+// The length of the content for each of the first kinds of step, for reader and writer.
 const LENGTHS: [u16; KINDS] = [1, 2, 6, 3, 2, 2, 1, 2, 1, 1, 2];
 
 pub fn content_length(kind: usize) -> u16
@@ -17,13 +21,34 @@ pub fn content_length(kind: usize) -> u16
     if kind < KINDS { LENGTHS[kind] } else { 0 }
 }
 
+// Req 02: 2 to 8 objects, two bytes each.
+fn is_context_length(n: u16) -> bool
+    ensures { λ r. ⌜ r ≡ isContextLength n ⌝ }
+{
+    if n % 2 == 0 {
+        contexts::is_count((n / 2) as u32)
+    } else {
+        false
+    }
+}
+
+// Whether the content of a record of this kind can have this length; another is refusal 1.
+pub fn is_length(kind: usize, n: u16) -> bool
+    ensures { λ r. ⌜ r ≡ isLength kind n ⌝ }
+{
+    if kind == CONTEXT_KIND {
+        return is_context_length(n);
+    }
+    n == content_length(kind)
+}
+
 // The kind of step that a tag names, or none (refusal 1).
 pub fn kind_of_tag(tag: u8) -> usize
     ensures { λ r. ⌜ r ≡ kindOfTag tag ⌝ }
 {
     match tag {
         32 => 0,
-        1..=10 => tag as usize,
+        1..=11 => tag as usize,
         _ => NO_STEP,
     }
 }
@@ -33,7 +58,7 @@ pub fn tag_of(kind: usize) -> u8
     ensures { λ r. ⌜ r ≡ tagOf kind ⌝ }
 {
     match kind {
-        1..=10 => kind as u8,
+        1..=11 => kind as u8,
         _ => 32,
     }
 }
@@ -53,5 +78,6 @@ pub fn kind_of(step: Step) -> usize
         Step::Tell(_) => 8,
         Step::Remove(_) => 9,
         Step::GiveUp(_) => 10,
+        Step::BeginContext(_) => CONTEXT_KIND,
     }
 }

@@ -6,11 +6,14 @@ ghost use lib.Dec.{leb};
 mod kinds;
 mod writer;
 
+pub use kinds::CONTEXT_KIND;
 pub use kinds::NO_STEP;
 pub use kinds::content_length;
+pub use kinds::is_length;
 pub use kinds::kind_of;
 pub use kinds::kind_of_tag;
 use protocol::Step;
+pub use writer::is_writable;
 pub use writer::record_length;
 pub use writer::write_at;
 
@@ -27,10 +30,11 @@ pub enum Next {
     Malformed,
 }
 
-// What a writer answers: how many bytes it wrote, or that the buffer is shorter than the record (refusal 15).
+// What a writer answers: how many bytes it wrote, that the buffer is shorter than the record (refusal 15), or that the step has no record (refusal 1).
 pub enum Written {
     Bytes(usize),
     TooShort,
+    Malformed,
 }
 
 // Whether so many bytes from a position on lie within the size. No sum can wrap.

@@ -6,23 +6,24 @@ use Rattle.reader.proofs.step_of.Statement.{statement}
 use Rattle.reader.proofs.step_of.Tie as tie
 
 -- the last kind is what the others leave
-give-up : tie.Need-returns-11
+begin-context : tie.Need-returns-12
 unfolding stepOf
-give-up c =
+begin-context c =
     let k : ℕ = c .before .before .before .args .kind in
     let others = c .before .match .rest in
     simp (
-      ne-eqb k 9 (others .1),
-      ne-eqb k 8 (others .0 .1),
-      ne-eqb k 7 (others .0 .0 .1),
-      ne-eqb k 6 (others .0 .0 .0 .1),
-      ne-eqb k 5 (others .0 .0 .0 .0 .1),
-      ne-eqb k 4 (others .0 .0 .0 .0 .0 .1),
-      ne-eqb k 3 (others .0 .0 .0 .0 .0 .0 .1),
-      ne-eqb k 2 (others .0 .0 .0 .0 .0 .0 .0 .1),
-      ne-eqb k 1 (others .0 .0 .0 .0 .0 .0 .0 .0 .1),
-      ne-eqb k 0 (others .0 .0 .0 .0 .0 .0 .0 .0 .0 .1),
-      ← c .two-at7 .ensures,
+      ne-eqb k 10 (others .1),
+      ne-eqb k 9 (others .0 .1),
+      ne-eqb k 8 (others .0 .0 .1),
+      ne-eqb k 7 (others .0 .0 .0 .1),
+      ne-eqb k 6 (others .0 .0 .0 .0 .1),
+      ne-eqb k 5 (others .0 .0 .0 .0 .0 .1),
+      ne-eqb k 4 (others .0 .0 .0 .0 .0 .0 .1),
+      ne-eqb k 3 (others .0 .0 .0 .0 .0 .0 .0 .1),
+      ne-eqb k 2 (others .0 .0 .0 .0 .0 .0 .0 .0 .1),
+      ne-eqb k 1 (others .0 .0 .0 .0 .0 .0 .0 .0 .0 .1),
+      ne-eqb k 0 (others .0 .0 .0 .0 .0 .0 .0 .0 .0 .0 .1),
+      ← c .objects-in .ensures,
     )
 
 pub step-of-spec : {M : Type 1} → statement M
@@ -30,6 +31,7 @@ unfolding stepOf
 step-of-spec =
     tie.close
     (tie.spec
+    (λ c κs. search needs)
     (λ c κs. search needs)
     (λ c κs. search needs)
     (λ c κs. search needs)
@@ -53,4 +55,5 @@ step-of-spec =
     (λ c. simp (c .before .match .keys8, ← c .two-at6 .ensures))
     (λ c. simp (c .before .match .keys9, ← c .byte-at4 .ensures))
     (λ c. simp (c .before .match .keys10, ← c .byte-at5 .ensures))
-    give-up)
+    (λ c. simp (c .before .match .keys11, ← c .two-at7 .ensures))
+    begin-context)

@@ -1,13 +1,19 @@
-use Rattle.records.specs.Records.{headerOf, recordOf, twoBytes, fourBytes}
+use Rattle.records.specs.Records.{contentLength, headerOf, recordOf, twoBytes, fourBytes}
+use Rattle.records.proofs.Contexts.{objects-record}
 use borrow.Author.Needs.{needs}
 use Rattle.records.proofs.writer.record_of.Statement.{statement}
 use Rattle.records.proofs.writer.record_of.Tie as tie
 
+begin-context : tie.Need-returns-12
+begin-context c = simp (c .before .before .step12 .given .1, c .objects .ensures, objects-record)
+
 pub record-of-spec : {M : Type 1} → statement M
-unfolding recordOf headerOf twoBytes fourBytes
+unfolding recordOf headerOf twoBytes fourBytes contentLength
 record-of-spec =
     tie.close
     (tie.spec
+    (λ c κs. search needs)
+    (λ c. search needs)
     (λ c κs. search needs)
     (λ c. search needs)
     (λ c κs. search needs)
@@ -41,4 +47,5 @@ record-of-spec =
     (λ c. simp (c .before .before .step8 .given .1, c .two-bytes4 .ensures, c .before .before .before .before .kind-of .ensures))
     (λ c. simp (c .before .before .step9 .given .1, c .one-byte3 .ensures, c .before .before .before .before .kind-of .ensures))
     (λ c. simp (c .before .before .step10 .given .1, c .one-byte4 .ensures, c .before .before .before .before .kind-of .ensures))
-    (λ c. simp (c .before .before .step11 .given .1, c .two-bytes5 .ensures, c .before .before .before .before .kind-of .ensures)))
+    (λ c. simp (c .before .before .step11 .given .1, c .two-bytes5 .ensures, c .before .before .before .before .kind-of .ensures))
+    begin-context)

@@ -5,23 +5,12 @@ use Rattle.records.proofs.writer.two_bytes.Tie as tie
 
 returns : tie.Need-returns
 unfolding headerOf twoBytes
-returns c =
-    simp (
-      c .before .before .before .before .before .content-length .ensures,
-      c .before .before .before .before .tag-of .ensures,
-      c .before .before .before .high .ensures,
-      c .before .before .low .ensures,
-      c .before .high2 .ensures,
-      c .low2 .ensures,
-    )
+returns c = simp (c .with-two .ensures, c .before .header .ensures, c .before .before .content-length .ensures)
 
 pub two-bytes-spec : {M : Type 1} → statement M
 two-bytes-spec =
     tie.close
     (tie.spec
-    (λ c κs. search needs)
-    (λ c κs. search needs)
-    (λ c κs. search needs)
     (λ c κs. search needs)
     (λ c κs. search needs)
     (λ c κs. search needs)
