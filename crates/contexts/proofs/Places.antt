@@ -1,14 +1,15 @@
 -- The numbers of a context by their places, and what the loops over them find.
 use mathlib.Core.Path.{_≡_, refl, sym, ap, _∙_}
 use mathlib.Core.Bool.{Bool, true, false, cond}
-use mathlib.Core.List.{List, [], _∷_, map}
+use mathlib.Core.List.{List, [], _∷_, map, List·Memᴰ}
 use Prim.Native.Nat.{ℕ, zero, suc, _+_, _≤_, _<_}
 use native.Mathlib.Nat.{not-suc-le-zero, le-of-suc-le-suc}
 use native.Mathlib.Omega.{arith}
+use lib.Dec.{leb}
 use lib.ListN.{length, getD}
-use borrow.Author.Tests.{eqb-true, eq-eqb, ne-eqb, lt-ltb}
+use borrow.Author.Tests.{eq-eqb, ne-eqb, lt-ltb, ltb-true, leb-true}
 use Rattle.lists.specs.{indexOf, listOf, allOf}
-use Rattle.lists.proofs.AllOf.{all-pass, all-fail}
+use Rattle.lists.proofs.AllOf.{all-pass, all-fail, all-member}
 use Rattle.lists.proofs.Index.{index-first, index-none}
 use Rattle.lists.proofs.Places.{length-listOf, getD-listOf, listOf-same}
 use Rattle.contexts.specs.declared.Context.{Context}
@@ -113,9 +114,32 @@ numbers-mapped f v =
 
 -- ---- the objects of a step
 
+count-some : (n : ℕ) → isCount n ≡ true → 2 ≤ n
+unfolding isCount
+count-some n e = go (leb 2 n) refl e
+  where
+    go : (b : Bool) → leb 2 n ≡ b → cond b (leb n 8) false ≡ true → 2 ≤ n
+    go true c f = leb-true 2 n c
+    go false c f = absurd (let z : _≡_ {A = ℕ} 0 1 = cc in omega arith)
+
 -- the last place decides where the others are as they should be
 pub naming-last : (x : Objects) → isCount (x .count) ≡ true → emptyAt (x .count) 2 (x .third) ≡ true → emptyAt (x .count) 3 (x .fourth) ≡ true
     → emptyAt (x .count) 4 (x .fifth) ≡ true → emptyAt (x .count) 5 (x .sixth) ≡ true → emptyAt (x .count) 6 (x .seventh) ≡ true
     → isNaming x ≡ emptyAt (x .count) 7 (x .eighth)
 unfolding isNaming
 naming-last x n a b c d e = rw (n, a, b, c, d, e)
+
+-- of two tests that both hold, the first does
+first-holds : (b rest : Bool) → cond b rest false ≡ true → b ≡ true
+first-holds true rest e = refl
+first-holds false rest e = absurd (let z : _≡_ {A = ℕ} 0 1 = cc in omega arith)
+
+-- there are objects
+pub naming-some : (x : Objects) → isNaming x ≡ true → 2 ≤ x .count
+unfolding isNaming
+naming-some x e = count-some (x .count) (first-holds (isCount (x .count)) _ e)
+
+-- each object is one that there is
+pub objects-small : (v : Context) → areObjects v ≡ true → (x : ℕ) → List·Memᴰ x (numbersOf v) → x < 1024
+unfolding areObjects isObject
+objects-small v e x i = ltb-true x 1024 (all-member isObject (numbersOf v) x e i)

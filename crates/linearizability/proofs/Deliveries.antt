@@ -1,7 +1,7 @@
 -- Every delivery keeps the invariant: a case for each kind of message.
 use mathlib.Core.Path.{_≡_, refl, sym, ap, _∙_, subst}
 use mathlib.Core.Bool.{Bool, true, false, cond}
-use mathlib.Core.List.{List, [], _∷_, _++_}
+use mathlib.Core.List.{List, [], _∷_, _++_, map}
 use mathlib.Core.Logic.{inl, inr}
 use Prim.Native.Nat.{ℕ, suc, _+_, _≤_, _<_}
 use native.Mathlib.Omega.{arith}
@@ -14,14 +14,22 @@ use Rattle.history.proofs.Lists.{here, there, cases-cons, cases-append, only-me
 use Rattle.history.proofs.Tests.{by-test}
 use Rattle.history.proofs.Entries.{Entry, Unfinished}
 use Rattle.history.proofs.Growth.{older, begun-not-finished}
-use Rattle.stamp.proofs.Laws.{larger-is}
+use Rattle.stamp.specs.Stamps.{isAbove}
+use Rattle.stamp.proofs.Laws.{larger-is, above-false}
+use Rattle.lists.specs.{allOf}
+use Rattle.lists.proofs.AllOf.{all-member}
 use Rattle.switch.specs.Numbers.{numberIn, counterIn, committedIn, directIn}
 use Rattle.switch.specs.DirtySet.{lookedUp, marked, stampFor, completed}
 use Rattle.switch.proofs.Laws.{SizedSwitch, sized-marked, marked-committed, marked-counter, sized-completed, completed-committed, completed-counter}
 use Rattle.operations.specs.{isOpen, lastGiven, closing}
-use Rattle.operations.proofs.Laws.{sized-closing, last-closing, open-after-closing, once-closing}
+use Rattle.operations.proofs.Behind.{SameOpens, same-self, same-last, same-open, same-once}
+use Rattle.contexts.specs.declared.Context.{Context}
+use Rattle.contexts.specs.{numbersOf, mapped, isCount, isContext, sizeAt, contextAt, holding, freeing}
+use Rattle.contexts.proofs.Places.{numbers-mapped}
+use Rattle.contexts.proofs.Rows.{Apart, size-is, context-closing, context-apart, opens-holding, sized-holding, size-held, numbers-held, freed-apart, opens-freeing, sized-freeing}
+use Rattle.operations.proofs.Laws.{SizedOpens, sized-closing, last-closing, open-after-closing, once-closing}
 use Rattle.store.specs.declared.Write.{Write}
-use Rattle.store.specs.{members, appliedBy, valueAt, stampAt}
+use Rattle.store.specs.{members, appliedBy, permittedBy, valueAt, stampAt}
 use Rattle.chain.specs.{isLive, headOf, tailOf, chosenBy, allPermit}
 use Rattle.replicas.specs.Replicas.{accepts, taking, answersDirect}
 use Rattle.chain.proofs.Members.{live-same, head-same, tail-same}
@@ -30,28 +38,30 @@ use Rattle.replicas.proofs.Moves.{accepts-live, answers-stamp, taking-is}
 use Rattle.waiting.specs.Waiting.{held, edited}
 use Rattle.waiting.proofs.Laws as waiting
 use Rattle.protocol.specs.Answers.{noFreshness}
+use Rattle.protocol.specs.declared.Answer.the-variants.{FinishedContext}
 use Rattle.protocol.specs.declared.Decision.{Decision}
 use Rattle.protocol.specs.declared.Message.{Message}
-use Rattle.protocol.specs.declared.Message.the-variants.{UnstampedWrite, SwitchRead, StampedWrite, DirectRead, NormalRead, Completion, Reply, Unknown}
+use Rattle.protocol.specs.declared.Message.the-variants.{UnstampedWrite, SwitchRead, StampedWrite, DirectRead, NormalRead, Completion, Reply, ContextRead, DirectContext, NormalContext, ContextReply, Unknown}
 use Rattle.protocol.specs.declared.Refusal.the-variants.{WaitingFull}
 use Rattle.protocol.specs.declared.Step.the-variants.{Deliver}
-use Rattle.protocol.specs.Decisions.{Outcome, Switched, Stored, switched, stored, keeping, changingSwitch, changingStore, changingOpens, deciding, takeOut, dropping, passing, overfull}
+use Rattle.protocol.specs.Decisions.{Outcome, Switched, Stored, Opened, switched, stored, opened, keeping, changingSwitch, changingStore, changingOpens, deciding, takeOut, dropping, passing, overfull}
+use Rattle.protocol.specs.Contexts.{droppingRow, goesDirectly, contextRead, isNotAbove, answersContext, answeringContext, directContext, normalContext, contextReply}
 use Rattle.protocol.specs.Delivery.{stamping, unstampedWrite, switchRead, answering, stampedWrite, directRead, freshness, normalRead, completion, reply, deliveredMessage}
 use Rattle.protocol.specs.Steps.{Machine, machine, givenBy}
 use Rattle.protocol.proofs.Freshness.{new-from}
-use Rattle.log.proofs.Log.{stamps, top}
+use Rattle.log.proofs.Log.{values, stamps, top}
 use Rattle.log.proofs.Holds.{Small, small-append}
 use Rattle.log.proofs.Shows.{Shows, applied-between, read-value, read-stamp, read-tail, stamp-tail}
 use Rattle.log.proofs.Moves.{shows-taken-above, shows-taken, shows-taken-lone, taken-lone-all, visible-taken, visible-taken-lone}
-use Rattle.linearizability.proofs.Packets.{Fine, Asks, unstampedOne, unstamped, unstamped-append, unstamped-lost, asks-none}
-use Rattle.linearizability.proofs.Core.{Core, core-add, core-direct, core-normal, core-accept, core-commit, core-lose, core-stamp}
-use Rattle.linearizability.proofs.Order.{core-outcome, core-finishes}
+use Rattle.linearizability.proofs.Packets.{AnsweredContext, rowNumbers, Fine, Asks, Names, unstampedOne, unstamped, unstamped-append, unstamped-lost, asks-none}
+use Rattle.linearizability.proofs.Core.{map-same, Core, core-add, core-rows, core-direct, core-normal, context-direct, context-normal, core-accept, core-commit, core-lose, core-leave, core-turn, core-stamp}
+use Rattle.linearizability.proofs.Order.{core-outcome, core-finishes, context-finishes}
 use Rattle.linearizability.proofs.Waits.{messages, front, back, Stands, stands-in, taken-out, taken-out-add, taken-out-add-two}
 use Rattle.linearizability.proofs.Invariant.{Placed, Books, Good, done, madeVisible, Then, order-stays, good-refused, posted-lost, posted-add}
 
 -- the invariant, from what the list then holds
 pub good-of : {k : Machine} {h : History} {es : List Entry} (issued log : List Write) (n : ℕ) (ms : List Message) → messages (k .waiting) ≡ ms
-    → Core h es issued log n ms (committedIn (k .switch)) → Shows (k .store) log n → ((p : Message) → p ∈ ms → Placed (k .store) p)
+    → Core h es issued log n ms (committedIn (k .switch)) (k .opens) → Shows (k .store) log n → ((p : Message) → p ∈ ms → Placed (k .store) p)
     → Books (k .opens) h → counterIn (k .switch) + unstamped ms ≤ lastGiven (k .opens) → SizedSwitch (k .switch) → waiting.Exact (k .waiting) → Good k h es
 good-of issued log n ms e c s p b u z x =
     record { issued = issued; log = log; n = n; core = rw e c; shown = s; posted = rw e p; books = b; counted = rw e u; switch-sized = z; exact = x }
@@ -72,6 +82,10 @@ placed-same s t e (DirectRead r number c o x) p = p
 placed-same s t e (NormalRead r o x c) p = λ l. p (sym (live-same t s e r) ∙ l) ∙ sym (tail-same t s e)
 placed-same s t e (Completion x c) p = p
 placed-same s t e (Reply o v c f) p = p
+placed-same s t e (ContextRead o r) p = p
+placed-same s t e (DirectContext q number c o r) p = p
+placed-same s t e (NormalContext q o r) p = λ l. p (sym (live-same t s e q) ∙ l) ∙ sym (tail-same t s e)
+placed-same s t e (ContextReply o r) p = p
 placed-same s t e Unknown p = p
 
 -- an operation other than the one that finishes stays unfinished
@@ -92,8 +106,8 @@ module _ {opens : List ℕ} {h : History} (o : ℕ) (still : isOpen opens o ≡ 
     ends-once = b .ends-once;
   }
 
-  books-finish : (v : ℕ) → Books (closing opens o) (finished o (v ∷ []) ∷ h)
-  books-finish v = record {
+  books-finish : (vs : List ℕ) → Books (closing opens o) (finished o vs ∷ h)
+  books-finish vs = record {
     cells = books-closed .cells;
     open-once = books-closed .open-once;
     opened = λ p e.
@@ -107,22 +121,35 @@ module _ {opens : List ℕ} {h : History} (o : ℕ) (still : isOpen opens o ≡ 
     ends-once = (b .opened o still .1, b .ends-once);
   }
 
+-- the books where the cells behind the open operations changed
+pub books-same : {opens opens' : List ℕ} {h : History} → SameOpens opens opens' → SizedOpens opens' → Books opens h → Books opens' h
+books-same s z b = record {
+  cells = z;
+  open-once = same-once s (b .open-once);
+  opened = λ o e. b .opened o (sym (same-open s o) ∙ e);
+  numbered = same-last s ∙ b .numbered;
+  few = rw (same-last s) (b .few);
+  bounded = b .bounded;
+  ranged = b .ranged;
+  ends-once = b .ends-once;
+}
+
 -- the message that stands at a position is delivered
 module _ {m : Machine} {h : History} {es : List Entry} (g : Good m h es) {at : ℕ} (choice : ℕ) {msg : Message} (i : Stands (m .waiting) at msg) where
   -- what is left of the list, and of the invariant, without the message
   rest : List Message
   rest = front at (m .waiting) ++ back at (m .waiting)
 
-  whole : Core h es (g .issued) (g .log) (g .n) (front at (m .waiting) ++ msg ∷ back at (m .waiting)) (committedIn (m .switch))
-  whole = subst (λ (l : List Message). Core h es (g .issued) (g .log) (g .n) l (committedIn (m .switch))) (i .split) (g .core)
+  whole : Core h es (g .issued) (g .log) (g .n) (front at (m .waiting) ++ msg ∷ back at (m .waiting)) (committedIn (m .switch)) (m .opens)
+  whole = subst (λ (l : List Message). Core h es (g .issued) (g .log) (g .n) l (committedIn (m .switch)) (m .opens)) (i .split) (g .core)
 
-  fine : Fine h es (g .issued) (top 0 (take (g .n) (g .log))) msg
+  fine : Fine h es (g .issued) (top 0 (take (g .n) (g .log))) (m .opens) msg
   fine = g .core .packets .fine msg (stands-in i)
 
   placed : Placed (m .store) msg
   placed = g .posted msg (stands-in i)
 
-  lost : Core h es (g .issued) (g .log) (g .n) rest (committedIn (m .switch))
+  lost : Core h es (g .issued) (g .log) (g .n) rest (committedIn (m .switch)) (m .opens)
   unfolding rest
   lost = core-lose (front at (m .waiting)) msg (back at (m .waiting)) whole
 
@@ -139,7 +166,7 @@ module _ {m : Machine} {h : History} {es : List Entry} (g : Good m h es) {at : �
   After u = Then (Deliver at choice) m h es u
 
   -- the message is dropped, and the switch may change
-  good-switched : (w : List ℕ) → Core h es (g .issued) (g .log) (g .n) rest (committedIn w) → counterIn w ≤ counterIn (m .switch) → SizedSwitch w
+  good-switched : (w : List ℕ) → Core h es (g .issued) (g .log) (g .n) rest (committedIn w) (m .opens) → counterIn w ≤ counterIn (m .switch) → SizedSwitch w
       → After (changingSwitch (givenBy m) (switched (dropping at) w))
   unfolding dropping rest
   good-switched w k c z =
@@ -151,7 +178,7 @@ module _ {m : Machine} {h : History} {es : List Entry} (g : Good m h es) {at : �
   good-dropped = good-switched (m .switch) lost (omega arith) (g .switch-sized)
 
   -- another message comes of it
-  good-passed : (w : List ℕ) (q : Message) (issued : List Write) → Core h es issued (g .log) (g .n) (rest ++ q ∷ []) (committedIn w)
+  good-passed : (w : List ℕ) (q : Message) (issued : List Write) → Core h es issued (g .log) (g .n) (rest ++ q ∷ []) (committedIn w) (m .opens)
       → Placed (m .store) q → unstampedOne q ≡ 0 → counterIn w ≤ counterIn (m .switch) + unstampedOne msg → SizedSwitch w
       → After (changingSwitch (givenBy m) (switched (passing at q) w))
   unfolding passing rest
@@ -162,14 +189,64 @@ module _ {m : Machine} {h : History} {es : List Entry} (g : Good m h es) {at : �
       (waiting.exact-edited (m .waiting) _ (g .exact)))
 
   -- so where the switch stays
-  good-answered : (q : Message) → Core h es (g .issued) (g .log) (g .n) (rest ++ q ∷ []) (committedIn (m .switch)) → Placed (m .store) q
+  good-answered : (q : Message) → Core h es (g .issued) (g .log) (g .n) (rest ++ q ∷ []) (committedIn (m .switch)) (m .opens) → Placed (m .store) q
       → unstampedOne q ≡ 0 → After (keeping (givenBy m) (passing at q))
   good-answered q k p u = good-passed (m .switch) q (g .issued) k p u (omega arith) (g .switch-sized)
 
   -- a message of which the core allows it
-  good-sent : (q : Message) → Fine h es (g .issued) (top 0 (take (g .n) (g .log))) q → ((o : ℕ) → Asks q o → ⊥) → Placed (m .store) q
+  good-sent : (q : Message) → Fine h es (g .issued) (top 0 (take (g .n) (g .log))) (m .opens) q → ((o : ℕ) → Asks q o → ⊥) → ((r : ℕ) → Names q r → ⊥)
+      → Placed (m .store) q
       → After (keeping (givenBy m) (passing at q))
-  good-sent q f a p = good-answered q (core-add lost q f a) p (asks-none q a)
+  good-sent q f a b p = good-answered q (core-add lost q f a b) p (asks-none q a)
+
+  -- ---- the message names row r, which alone may change
+
+  module _ (r : ℕ) (names : Names msg r) (opens' : List ℕ) (same : (s : ℕ) → Apart r s → contextAt opens' s ≡ contextAt (m .opens) s)
+      (open-same : SameOpens (m .opens) opens') (sized : SizedOpens opens') where
+    -- it is dropped
+    good-left : After (changingOpens (givenBy m) (opened (dropping at) opens'))
+    unfolding dropping rest
+    good-left =
+        rw (order-stays m (done m (changingOpens (givenBy m) (opened (dropping at) opens'))) es refl)
+        (good-of (g .issued) (g .log) (g .n) rest (taken-out (m .waiting) i)
+        (core-leave (front at (m .waiting)) msg (back at (m .waiting)) whole r names same) (g .shown) others
+        (books-same open-same sized (g .books)) (omega (arith, fewer, same-last open-same)) (g .switch-sized) (waiting.exact-edited (m .waiting) (takeOut at) (g .exact)))
+
+    -- another message that names the row comes of it
+    good-turned : (q : Message) → Fine h es (g .issued) (top 0 (take (g .n) (g .log))) opens' q → ((o : ℕ) → Asks q o → ⊥) → ((s : ℕ) → Names q s → s ≡ r)
+        → (sizeAt opens' r ≡ 0 → ⊥) → Placed (m .store) q → After (changingOpens (givenBy m) (opened (passing at q) opens'))
+    unfolding passing rest
+    good-turned q f a only held p =
+        rw (order-stays m (done m (changingOpens (givenBy m) (opened (passing at q) opens'))) es refl)
+        (good-of (g .issued) (g .log) (g .n) (rest ++ q ∷ []) (taken-out-add (m .waiting) i q)
+        (core-turn (front at (m .waiting)) msg (back at (m .waiting)) whole r names same q f a only held) (g .shown)
+        (posted-add {s = m .store} rest q others p) (books-same open-same sized (g .books))
+        (omega (arith, fewer, same-last open-same, unstamped-append rest (q ∷ []), asks-none q a)) (g .switch-sized)
+        (waiting.exact-edited (m .waiting) _ (g .exact)))
+
+  -- the row is freed
+  pub good-freed : (r : ℕ) → Names msg r → After (changingOpens (givenBy m) (droppingRow (m .opens) at r))
+  unfolding droppingRow
+  good-freed r names =
+      good-left r names (freeing (m .opens) r) (freed-apart (m .opens) r) (opens-freeing (m .opens) r) (sized-freeing (m .opens) r (g .books .cells))
+
+  -- the row stays
+  good-moved : (r : ℕ) → Names msg r → (q : Message) → Fine h es (g .issued) (top 0 (take (g .n) (g .log))) (m .opens) q → ((o : ℕ) → Asks q o → ⊥)
+      → ((s : ℕ) → Names q s → s ≡ r) → Placed (m .store) q → After (changingOpens (givenBy m) (opened (passing at q) (m .opens)))
+  good-moved r names q f a only p =
+      good-turned r names (m .opens) (λ s n. refl) same-self (g .books .cells) q f a only (g .core .packets .used msg r (stands-in i) names) p
+
+  -- replica q answers with its values of the objects of the row
+  good-values : (r : ℕ) → Names msg r → (q o : ℕ) → AnsweredContext h es o (map (valueAt (m .store) q) (rowNumbers (m .opens) r))
+      → After (changingOpens (givenBy m) (answeringContext (m .store) (m .opens) at q o r))
+  unfolding answeringContext mapped
+  good-values r names q o f =
+      let l = m .opens in
+      let v = mapped (valueAt (m .store) q) (contextAt l r) in
+      let z = g .books .cells in
+      good-turned r names (holding l r v) (context-apart l r v) (opens-holding l r v) (sized-holding l r v z) (ContextReply o r)
+      (subst (AnsweredContext h es o) (sym (numbers-held l r v z ∙ numbers-mapped (valueAt (m .store) q) (contextAt l r))) f) (λ p a. a) (λ s e. sym e)
+      (λ e. g .core .packets .used msg r (stands-in i) names (sym (size-is l r) ∙ sym (size-held l r v z) ∙ e)) tt
 
   -- ---- the chain takes a write
 
@@ -183,7 +260,7 @@ module _ {m : Machine} {h : History} {es : List Entry} (g : Good m h es) {at : �
         let position = appliedBy (m .store) r in
         ap members (taking-is (m .store) r w) ∙ members-applying _ r w ∙ members-logged (m .store) position w
 
-    accepted : Core h es (g .issued) (g .log ++ w ∷ []) (g .n) rest (committedIn (m .switch))
+    accepted : Core h es (g .issued) (g .log ++ w ∷ []) (g .n) rest (committedIn (m .switch)) (m .opens)
     accepted = core-accept lost w known (shows-taken-above (g .shown) r w taken first)
 
     small : Small (g .log ++ w ∷ [])
@@ -226,9 +303,26 @@ module _ {m : Machine} {h : History} {es : List Entry} (g : Good m h es) {at : �
       rw still
       (rw (order-stays m (machine (m .switch) (m .store) (closing (m .opens) o) (edited (m .waiting) (takeOut at))) es refl)
       (good-of (g .issued) (g .log) (g .n) rest (taken-out (m .waiting) i)
-      (core-finishes lost o v c f (subst (Fine h es (g .issued) (top 0 (take (g .n) (g .log)))) e fine) (g .books .opened o still .1))
-      (g .shown) others (books-finish o still (g .books) v) (omega (arith, fewer, last-closing (m .opens) o (g .books .cells) still)) (g .switch-sized)
+      (core-rows (core-finishes lost o v c f (subst (Fine h es (g .issued) (top 0 (take (g .n) (g .log))) (m .opens)) e fine) (g .books .opened o still .1))
+      (λ q j r n. context-closing (m .opens) o r))
+      (g .shown) others (books-finish o still (g .books) (v ∷ [])) (omega (arith, fewer, last-closing (m .opens) o (g .books .cells) still)) (g .switch-sized)
       (waiting.exact-edited (m .waiting) _ (g .exact))))
+
+  good-context : (o r : ℕ) → msg ≡ ContextReply o r → isOpen (m .opens) o ≡ true
+      → After (changingOpens (givenBy m) (opened (record { answer = FinishedContext o (contextAt (m .opens) r); edit = takeOut at }) (freeing (closing (m .opens) o) r)))
+  unfolding rest
+  good-context o r e still =
+      let l = closing (m .opens) o in
+      let names : Names msg r = subst (λ (q : Message). Names q r) (sym e) refl in
+      let agree : (s : ℕ) → Apart r s → contextAt (freeing l r) s ≡ contextAt (m .opens) s = λ s n. freed-apart l r s n ∙ context-closing (m .opens) o s in
+      let closed = books-finish o still (g .books) (rowNumbers (m .opens) r) in
+      rw (order-stays m (machine (m .switch) (m .store) (freeing l r) (edited (m .waiting) (takeOut at))) es refl)
+      (good-of (g .issued) (g .log) (g .n) rest (taken-out (m .waiting) i)
+      (context-finishes (core-leave (front at (m .waiting)) msg (back at (m .waiting)) whole r names agree) o (rowNumbers (m .opens) r)
+      (subst (Fine h es (g .issued) (top 0 (take (g .n) (g .log))) (m .opens)) e fine) (g .books .opened o still .1))
+      (g .shown) others (books-same (opens-freeing l r) (sized-freeing l r (closed .cells)) closed)
+      (omega (arith, fewer, last-closing (m .opens) o (g .books .cells) still, same-last (opens-freeing l r))) (g .switch-sized)
+      (waiting.exact-edited (m .waiting) _ (g .exact)))
 
   -- a reply of an operation that is not open is ignored
   good-ignored : (o v f : ℕ) → isOpen (m .opens) o ≡ false → After (changingOpens (givenBy m) (reply (m .opens) at o v f))
@@ -237,9 +331,27 @@ module _ {m : Machine} {h : History} {es : List Entry} (g : Good m h es) {at : �
 
 -- ---- every message
 
+-- what holds of both holds of the one that a test chooses
+pub both : {A : Type 0} (P : A → Type 0) (b : Bool) {x y : A} → P x → P y → P (cond b x y)
+both P b p q = by-test P b _ _ (λ e. p) (λ e. q)
+
+not-above : (s : List ℕ) (q t x : ℕ) → isNotAbove s q t x ≡ true → stampAt s q x ≤ t
+unfolding isNotAbove
+not-above s q t x = by-test (λ (b : Bool). b ≡ true → stampAt s q x ≤ t) (isAbove (stampAt s q x) t) _ _
+    (λ a z. absurd (let n : _≡_ {A = ℕ} 0 1 = cc in omega arith)) (λ a z. above-false (stampAt s q x) t a)
+
+-- a replica that answers a context has no stamp of its objects above the one carried
+context-stamp : (s : List ℕ) (q number t : ℕ) (v : Context) → answersContext s q number t v ≡ true → (x : ℕ) → x ∈ numbersOf v → stampAt s q x ≤ t
+unfolding answersContext
+context-stamp s q number t v e x i = go (eqb (permittedBy s q) number) e
+  where
+    go : (b : Bool) → cond b (allOf (isNotAbove s q t) (numbersOf v)) false ≡ true → stampAt s q x ≤ t
+    go true a = not-above s q t x (all-member (isNotAbove s q t) (numbersOf v) x a i)
+    go false a = absurd (let n : _≡_ {A = ℕ} 0 1 = cc in omega arith)
+
 pub good-message : {m : Machine} {h : History} {es : List Entry} (g : Good m h es) {at : ℕ} (choice : ℕ) (msg : Message) (i : Stands (m .waiting) at msg)
     → After g choice i (deliveredMessage (givenBy m) at choice msg)
-unfolding deliveredMessage stamping unstampedWrite switchRead stampedWrite directRead normalRead completion rest
+unfolding deliveredMessage stamping unstampedWrite switchRead stampedWrite directRead normalRead completion contextRead directContext normalContext contextReply rest
 good-message {m} {h} {es} g {at} choice (UnstampedWrite o x v) i =
     by-test (λ (u : Switched). After g choice i (changingSwitch (givenBy m) u)) (allPermit (m .store) (numberIn (m .switch))) _ _
     (λ e. by-test (λ (d : Decision). After g choice i (changingSwitch (givenBy m) (switched d (marked (m .switch) x)))) (eqb (stampFor (m .switch) x) 0) _ _
@@ -259,7 +371,7 @@ good-message {m} {h} {es} g {at} choice (SwitchRead o x) i =
     by-test P (directIn (m .switch)) _ _
     (λ e. by-test P (eqb (lookedUp (m .switch) x) 0) _ _
     (λ clean. good-sent g choice i (DirectRead (chosenBy (m .store) choice) (numberIn (m .switch)) (committedIn (m .switch)) o x)
-    (fine g choice i, g .core .low) (λ p q. q) tt)
+    (fine g choice i, g .core .low) (λ p q. q) (λ p q. q) tt)
     (λ dirty. slow))
     (λ e. slow)
   where
@@ -267,7 +379,7 @@ good-message {m} {h} {es} g {at} choice (SwitchRead o x) i =
     P d = After g choice i (keeping (givenBy m) d)
 
     slow : After g choice i (keeping (givenBy m) (passing at (NormalRead (tailOf (m .store)) o x (lookedUp (m .switch) x))))
-    slow = good-sent g choice i (NormalRead (tailOf (m .store)) o x (lookedUp (m .switch) x)) (fine g choice i) (λ p q. q) (λ l. refl)
+    slow = good-sent g choice i (NormalRead (tailOf (m .store)) o x (lookedUp (m .switch) x)) (fine g choice i) (λ p q. q) (λ p q. q) (λ l. refl)
 good-message {m} {h} {es} g {at} choice (StampedWrite r w) i =
     by-test P (accepts (m .store) r (w .stamp)) _ _
     (λ taken.
@@ -286,7 +398,7 @@ good-message {m} {h} {es} g {at} choice (DirectRead r number t o x) i =
     by-test P (isLive (m .store) r) _ _
     (λ live. by-test P (answersDirect (m .store) r x number t) _ _
     (λ yes'. good-answered g choice i (Reply o (valueAt (m .store) r x) 0 noFreshness) (answered live yes') tt refl)
-    (λ no'. good-sent g choice i (NormalRead (tailOf (m .store)) o x 0) (f .0) (λ p q. q) (λ l. refl)))
+    (λ no'. good-sent g choice i (NormalRead (tailOf (m .store)) o x 0) (f .0) (λ p q. q) (λ p q. q) (λ l. refl)))
     (λ gone. good-dropped g choice i)
   where
     P : Decision → Type 0
@@ -299,7 +411,7 @@ good-message {m} {h} {es} g {at} choice (DirectRead r number t o x) i =
     small = g .books .ranged o (reads (x ∷ [])) (f .0) x (here refl)
 
     answered : isLive (m .store) r ≡ true → answersDirect (m .store) r x number t ≡ true
-        → Core h es (g .issued) (g .log) (g .n) (rest g choice i ++ Reply o (valueAt (m .store) r x) 0 noFreshness ∷ []) (committedIn (m .switch))
+        → Core h es (g .issued) (g .log) (g .n) (rest g choice i ++ Reply o (valueAt (m .store) r x) 0 noFreshness ∷ []) (committedIn (m .switch)) (m .opens)
     answered live e =
         rw (read-value (g .shown) r x live small)
         (core-direct (lost g choice i) o x (appliedBy (m .store) r) t (f .0) (f .1) (applied-between (g .shown) r live .0)
@@ -316,7 +428,7 @@ good-message {m} {h} {es} g {at} choice (NormalRead r o x c) i =
     small = g .books .ranged o (reads (x ∷ [])) f x (here refl)
 
     answered : r ≡ tailOf (m .store)
-        → Core h es (g .issued) (g .log) (g .n) (rest g choice i ++ Reply o (valueAt (m .store) r x) c (freshness (stampAt (m .store) r x) c) ∷ []) (committedIn (m .switch))
+        → Core h es (g .issued) (g .log) (g .n) (rest g choice i ++ Reply o (valueAt (m .store) r x) c (freshness (stampAt (m .store) r x) c) ∷ []) (committedIn (m .switch)) (m .opens)
     answered e =
         rw (e, read-tail (g .shown) x small, stamp-tail (g .shown) x small)
         (core-normal (lost g choice i) o x c (freshness (stamps (take (g .n) (g .log)) x) c) f (new-from (stamps (take (g .n) (g .log)) x) c))
@@ -329,4 +441,61 @@ good-message {m} {h} {es} g {at} choice (Reply o v c f) i = go (isOpen (m .opens
     go : (b : Bool) → isOpen (m .opens) o ≡ b → After g choice i (changingOpens (givenBy m) (reply (m .opens) at o v f))
     go true e = good-finished g choice i o v c f refl e
     go false e = good-ignored g choice i o v f e
+good-message {m} {h} {es} g {at} choice (ContextRead o r) i =
+    both P (isContext (contextAt (m .opens) r))
+    (both P (goesDirectly (m .switch) (contextAt (m .opens) r))
+    (good-moved g choice i r refl (DirectContext (chosenBy (m .store) choice) (numberIn (m .switch)) (committedIn (m .switch)) o r)
+    (fine g choice i, g .core .low) (λ p q. q) (λ s e. sym e) tt)
+    (good-moved g choice i r refl (NormalContext (tailOf (m .store)) o r) (fine g choice i) (λ p q. q) (λ s e. sym e) (λ l. refl)))
+    (good-freed g choice i r refl)
+  where
+    P : Opened → Type 0
+    P u = After g choice i (changingOpens (givenBy m) u)
+good-message {m} {h} {es} g {at} choice (DirectContext q number t o r) i =
+    by-test P (isLive (m .store) q) _ _
+    (λ live. both P (isContext (contextAt (m .opens) r))
+    (by-test P (answersContext (m .store) q number t (contextAt (m .opens) r)) _ _
+    (λ yes'. good-values g choice i r refl q o (answered live yes'))
+    (λ no'. good-moved g choice i r refl (NormalContext (tailOf (m .store)) o r) (f .0) (λ p q. q) (λ s e. sym e) (λ l. refl)))
+    (good-freed g choice i r refl))
+    (λ gone. good-freed g choice i r refl)
+  where
+    P : Opened → Type 0
+    P u = After g choice i (changingOpens (givenBy m) u)
+
+    f : (begun o (reads (rowNumbers (m .opens) r)) ∈ h) × (t ≤ top 0 (take (g .n) (g .log)))
+    f = fine g choice i
+
+    small : (x : ℕ) → x ∈ rowNumbers (m .opens) r → x < 1024
+    small = g .books .ranged o (reads (rowNumbers (m .opens) r)) (f .0)
+
+    answered : isLive (m .store) q ≡ true → answersContext (m .store) q number t (contextAt (m .opens) r) ≡ true
+        → AnsweredContext h es o (map (valueAt (m .store) q) (rowNumbers (m .opens) r))
+    answered live e =
+        rw (map-same (valueAt (m .store) q) (values (take (appliedBy (m .store) q) (g .log))) (rowNumbers (m .opens) r) (λ x j. read-value (g .shown) q x live (small x j)))
+        (context-direct (g .core) o (rowNumbers (m .opens) r) (appliedBy (m .store) q) t (f .0) (f .1) (applied-between (g .shown) q live .0)
+        (λ x j. rw (read-stamp (g .shown) q x live (small x j)) at (context-stamp (m .store) q number t (contextAt (m .opens) r) e x j)))
+good-message {m} {h} {es} g {at} choice (NormalContext q o r) i =
+    by-test P (isLive (m .store) q) _ _
+    (λ live. both P (isContext (contextAt (m .opens) r)) (good-values g choice i r refl q o (answered (placed g choice i live))) (good-freed g choice i r refl))
+    (λ gone. good-freed g choice i r refl)
+  where
+    P : Opened → Type 0
+    P u = After g choice i (changingOpens (givenBy m) u)
+
+    f : begun o (reads (rowNumbers (m .opens) r)) ∈ h
+    f = fine g choice i
+
+    answered : q ≡ tailOf (m .store) → AnsweredContext h es o (map (valueAt (m .store) q) (rowNumbers (m .opens) r))
+    answered e =
+        rw (map-same (valueAt (m .store) q) (values (take (g .n) (g .log))) (rowNumbers (m .opens) r) (λ x j.
+        ap (λ (p : ℕ). valueAt (m .store) p x) e ∙ read-tail (g .shown) x (g .books .ranged o (reads (rowNumbers (m .opens) r)) f x j)))
+        (context-normal (g .core) o (rowNumbers (m .opens) r) f)
+good-message {m} {h} {es} g {at} choice (ContextReply o r) i =
+    by-test P (isOpen (m .opens) o) _ _
+    (λ still. both P (isCount (contextAt (m .opens) r .count)) (good-context g choice i o r refl still) (good-freed g choice i r refl))
+    (λ shut. good-freed g choice i r refl)
+  where
+    P : Opened → Type 0
+    P u = After g choice i (changingOpens (givenBy m) u)
 good-message {m} {h} {es} g {at} choice Unknown i = good-dropped g choice i

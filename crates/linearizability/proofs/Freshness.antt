@@ -13,6 +13,7 @@ use Rattle.history.proofs.Tests.{by-test}
 use Rattle.history.proofs.Entries.{Entry, read-entry, empty}
 use Rattle.history.proofs.Place.{ahead-place}
 use Rattle.history.proofs.Claim.{numbers}
+use Rattle.contexts.specs.{numbersOf}
 use Rattle.store.specs.declared.Write.{Write}
 use Rattle.store.specs.{appliedBy, stampAt}
 use Rattle.chain.specs.{isLive, tailOf}
@@ -20,7 +21,7 @@ use Rattle.waiting.specs.declared.Packet.{Packet}
 use Rattle.waiting.specs.Waiting.{lookAt}
 use Rattle.protocol.specs.Answers.{oldRead, newRead}
 use Rattle.protocol.specs.declared.Answer.{Answer}
-use Rattle.protocol.specs.declared.Answer.the-variants.{Done, Finished, Refused}
+use Rattle.protocol.specs.declared.Answer.the-variants.{Done, Finished, FinishedContext, Refused}
 use Rattle.protocol.specs.declared.Message.{Message}
 use Rattle.protocol.specs.declared.Message.the-variants.{NormalRead, Reply}
 use Rattle.protocol.specs.declared.Step.{Step}
@@ -56,6 +57,7 @@ module _ (a b : Entry) where
   ahead-finishing : (answer : Answer) (h : History) (es : List Entry) → Ahead a b es → Ahead a b (finishing answer h es)
   ahead-finishing Done h es p = p
   ahead-finishing (Finished o v f) h es p = ahead-finish h o (v ∷ []) es p
+  ahead-finishing (FinishedContext o v) h es p = ahead-finish h o (numbersOf v) es p
   ahead-finishing (Refused r) h es p = p
 
   ahead-from : (m : Machine) (h : History) (es : List Entry) (xs : List Step) → Ahead a b es → Ahead a b (orderFrom m h es xs)

@@ -14,6 +14,7 @@ use Rattle.switch.specs.Numbers.{counterIn, committedIn}
 use Rattle.switch.proofs.Laws.{SizedSwitch}
 use Rattle.operations.specs.{isOpen, lastGiven}
 use Rattle.operations.proofs.Laws.{SizedOpens, OpenOnce}
+use Rattle.contexts.specs.{numbersOf}
 use Rattle.store.specs.declared.Write.{Write}
 use Rattle.store.specs.{appliedBy}
 use Rattle.chain.specs.{isLive, headOf, tailOf}
@@ -21,12 +22,12 @@ use Rattle.replicas.specs.Links.{entries}
 use Rattle.waiting.specs.Waiting.{edited}
 use Rattle.waiting.proofs.Laws as waiting
 use Rattle.protocol.specs.declared.Answer.{Answer}
-use Rattle.protocol.specs.declared.Answer.the-variants.{Done, Finished, Refused}
+use Rattle.protocol.specs.declared.Answer.the-variants.{Done, Finished, FinishedContext, Refused}
 use Rattle.protocol.specs.declared.Message.{Message}
-use Rattle.protocol.specs.declared.Message.the-variants.{UnstampedWrite, SwitchRead, StampedWrite, DirectRead, NormalRead, Completion, Reply, Unknown}
+use Rattle.protocol.specs.declared.Message.the-variants.{UnstampedWrite, SwitchRead, StampedWrite, DirectRead, NormalRead, Completion, Reply, ContextRead, DirectContext, NormalContext, ContextReply, Unknown}
 use Rattle.protocol.specs.declared.Refusal.{Refusal}
 use Rattle.protocol.specs.declared.Step.{Step}
-use Rattle.protocol.specs.declared.Step.the-variants.{Start, BeginRead, BeginWrite, Deliver, Lose, Repeat, Advance, Replace, Tell, Remove, GiveUp}
+use Rattle.protocol.specs.declared.Step.the-variants.{Start, BeginRead, BeginWrite, Deliver, Lose, Repeat, Advance, Replace, Tell, Remove, GiveUp, BeginContext}
 use Rattle.protocol.specs.Decisions.{Outcome, keeping, refusing}
 use Rattle.protocol.specs.Steps.{Machine, machine, givenBy}
 use Rattle.log.proofs.Shows.{Shows}
@@ -47,6 +48,10 @@ Placed s (DirectRead r number t o x) = Unit {0}
 Placed s (NormalRead r o x c) = isLive s r ≡ true → r ≡ tailOf s
 Placed s (Completion x t) = Unit {0}
 Placed s (Reply o v c f) = Unit {0}
+Placed s (ContextRead o r) = Unit {0}
+Placed s (DirectContext q number t o r) = Unit {0}
+Placed s (NormalContext q o r) = isLive s q ≡ true → q ≡ tailOf s
+Placed s (ContextReply o r) = Unit {0}
 Placed s Unknown = Unit {0}
 
 -- the operation is on objects that there are
@@ -77,7 +82,7 @@ pub record Good (m : Machine) (h : History) (es : List Entry) : Type 0 where
   pub issued : List Write
   pub log : List Write
   pub n : ℕ
-  pub core : Core h es issued log n (messages (m .waiting)) (committedIn (m .switch))
+  pub core : Core h es issued log n (messages (m .waiting)) (committedIn (m .switch)) (m .opens)
   pub shown : Shows (m .store) log n
   pub posted : (p : Message) → p ∈ messages (m .waiting) → Placed (m .store) p
   pub books : Books (m .opens) h
@@ -103,6 +108,7 @@ madeVisible m k = entries (k .store) (tailApplied m) (tailApplied k - tailApplie
 abbrev pub finishing : Answer → History → List Entry → List Entry
 finishing Done h es = es
 finishing (Finished o v f) h es = finishOrder h o (v ∷ []) es
+finishing (FinishedContext o v) h es = finishOrder h o (numbersOf v) es
 finishing (Refused r) h es = es
 
 -- the order one step later: a write goes to its end when it becomes visible, a read that finishes to the last place at which its object holds its value
@@ -134,6 +140,7 @@ noted-refused (Replace number) r h = refl
 noted-refused (Tell a) r h = refl
 noted-refused (Remove a) r h = refl
 noted-refused (GiveUp o) r h = refl
+noted-refused (BeginContext x) r h = refl
 
 -- a refused step leaves the machine as it was
 pub refused-stays : (m : Machine) (r : Refusal) → done m (keeping (givenBy m) (refusing r)) ≡ m

@@ -3,6 +3,7 @@ pub mod Members
 pub mod Visible
 pub mod Packets
 pub mod Core
+pub mod Copies
 pub mod Order
 pub mod Bounds
 pub mod Waits

@@ -19,6 +19,10 @@ use Rattle.history.proofs.Lists.{here, there, no-member, cases-cons, cases-inse
 use Rattle.history.proofs.Tests.{by-test}
 use Rattle.history.proofs.Entries.{Entry}
 use Rattle.operations.specs.{openCount, isOpen, lastGiven, roomToOpen, noneOpen, opening, closing}
+use Rattle.operations.proofs.Behind.{SameOpens, same-self, same-count, same-open}
+use Rattle.contexts.specs.declared.Objects.{Objects}
+use Rattle.contexts.specs.{contextOf, numbersOf, areObjects, areDifferent, isCount, isContext, contextAt, freeRow}
+use Rattle.contexts.proofs.Rows.{opens-holding, opens-freeing}
 use Rattle.operations.proofs.Laws.{count-none, none-open, count-opening, opened-now, still-open, open-before, room-below, full-count, count-closing, others-stay-open, open-after-closing}
 use Rattle.switch.specs.Numbers.{numberIn, directIn}
 use Rattle.switch.specs.DirtySet.{lookedUp, stampFor, marked}
@@ -30,18 +34,20 @@ use Rattle.waiting.proofs.Laws.{length-edited}
 use Rattle.protocol.specs.declared.Answer.the-variants.{Done, Refused}
 use Rattle.protocol.specs.declared.Decision.{Decision}
 use Rattle.protocol.specs.declared.Message.{Message}
-use Rattle.protocol.specs.declared.Message.the-variants.{UnstampedWrite, SwitchRead, StampedWrite, DirectRead, NormalRead, Completion, Reply, Unknown}
+use Rattle.protocol.specs.declared.Message.the-variants.{UnstampedWrite, SwitchRead, StampedWrite, DirectRead, NormalRead, Completion, Reply, ContextRead, DirectContext, NormalContext, ContextReply, Unknown}
 use Rattle.protocol.specs.declared.Refusal.{Refusal}
-use Rattle.protocol.specs.declared.Refusal.the-variants.{Format, ObjectNumber, OperationsUsedUp, OpenFull, WaitingFull, BufferTooShort}
+use Rattle.protocol.specs.declared.Refusal.the-variants.{Format, ObjectNumber, OperationsUsedUp, OpenFull, WaitingFull, BufferTooShort, SameObject}
 use Rattle.protocol.specs.declared.Step.{Step}
-use Rattle.protocol.specs.declared.Step.the-variants.{Start, BeginRead, BeginWrite, Deliver, Lose, Repeat, Advance, Replace, Tell, Remove, GiveUp}
-use Rattle.protocol.specs.Messages.{messageOf}
-use Rattle.protocol.specs.Decisions.{Given, Outcome, Switched, Stored, Opened, switched, keeping, changingSwitch, changingStore, changingOpens, refusing, dropping, passing, overfull}
+use Rattle.protocol.specs.declared.Step.the-variants.{Start, BeginRead, BeginWrite, Deliver, Lose, Repeat, Advance, Replace, Tell, Remove, GiveUp, BeginContext}
+use Rattle.protocol.specs.Messages.{messageOf, isUnstamped, isOfContext}
+use Rattle.protocol.specs.Decisions.{Given, Outcome, Switched, Stored, Opened, switched, opened, keeping, changingSwitch, changingStore, changingOpens, refusing, dropping, passing, overfull}
+use Rattle.protocol.specs.Contexts.{released, leaving, droppingRow, goesDirectly, contextRead, answersContext, answeringContext, directContext, normalContext, contextReply}
 use Rattle.protocol.specs.Delivery.{stamping, unstampedWrite, switchRead, stampedWrite, directRead, normalRead, completion, reply, deliveredMessage}
-use Rattle.protocol.specs.Steps.{Machine, givenBy, outcomeOf, beginOperation, delivered, givingUp, decided, isMalformed, decidedIn, positionOf, answerTo, after, started}
+use Rattle.protocol.specs.Steps.{Machine, givenBy, outcomeOf, beginOperation, beginContext, delivered, lost, copied, repeated, givingUp, decided, isMalformed, decidedIn, positionOf, answerTo, after, started}
 use Rattle.linearizability.specs.Run.{begunCount, noted, historyOf, openWithout, openNoted, openFrom, openOf}
 use Rattle.linearizability.proofs.Invariant.{Good}
-use Rattle.linearizability.proofs.Steps.{both, next-is}
+use Rattle.linearizability.proofs.Deliveries.{both}
+use Rattle.linearizability.proofs.Steps.{next-is}
 use Rattle.linearizability.proofs.OneOrder.{good-start, good-after}
 use Rattle.linearizability.proofs.Limits.{reached, machineOf, good-run}
 
@@ -50,11 +56,11 @@ use Rattle.linearizability.proofs.Limits.{reached, machineOf, good-run}
 -- from the cells, the history and the list of open numbers before a step to those after it
 pub data Change (cells : List ℕ) (h : History) (l : List ℕ) (cells' : List ℕ) (h' : History) (l' : List ℕ) : Type 0 where
   -- none begins, finishes or is given up
-  stays : cells' ≡ cells → h' ≡ h → l' ≡ l → Change cells h l cells' h' l'
-  begins : (k : Kind) → roomToOpen cells ≡ true → cells' ≡ opening cells (lastGiven cells + 1) → h' ≡ begun (suc (begunCount h)) k ∷ h
+  stays : SameOpens cells cells' → h' ≡ h → l' ≡ l → Change cells h l cells' h' l'
+  begins : (k : Kind) → roomToOpen cells ≡ true → SameOpens (opening cells (lastGiven cells + 1)) cells' → h' ≡ begun (suc (begunCount h)) k ∷ h
       → l' ≡ suc (begunCount h) ∷ l → Change cells h l cells' h' l'
-  finishes : (o v : ℕ) → isOpen cells o ≡ true → cells' ≡ closing cells o → h' ≡ finished o (v ∷ []) ∷ h → l' ≡ openWithout o l → Change cells h l cells' h' l'
-  gives-up : (o : ℕ) → isOpen cells o ≡ true → cells' ≡ closing cells o → h' ≡ h → l' ≡ openWithout o l → Change cells h l cells' h' l'
+  finishes : (o : ℕ) (vs : List ℕ) → isOpen cells o ≡ true → SameOpens (closing cells o) cells' → h' ≡ finished o vs ∷ h → l' ≡ openWithout o l → Change cells h l cells' h' l'
+  gives-up : (o : ℕ) → isOpen cells o ≡ true → SameOpens (closing cells o) cells' → h' ≡ h → l' ≡ openWithout o l → Change cells h l cells' h' l'
 
 module _ (g : Given) (h : History) (l : List ℕ) where
   abbrev Changes : Step → Outcome → Type 0
@@ -75,17 +81,18 @@ module _ (g : Given) (h : History) (l : List ℕ) where
   -- a refusal changes nothing
   change-refused : (x : Step) (r : Refusal) → Decides x (refusing r)
   unfolding refusing
-  change-refused (Start n) r = stays refl refl refl
-  change-refused (BeginRead x) r = stays refl refl refl
-  change-refused (BeginWrite x v) r = stays refl refl refl
-  change-refused (Deliver at choice) r = stays refl refl refl
-  change-refused (Lose at) r = stays refl refl refl
-  change-refused (Repeat at) r = stays refl refl refl
-  change-refused (Advance a) r = stays refl refl refl
-  change-refused (Replace number) r = stays refl refl refl
-  change-refused (Tell a) r = stays refl refl refl
-  change-refused (Remove a) r = stays refl refl refl
-  change-refused (GiveUp o) r = stays refl refl refl
+  change-refused (Start n) r = stays same-self refl refl
+  change-refused (BeginRead x) r = stays same-self refl refl
+  change-refused (BeginWrite x v) r = stays same-self refl refl
+  change-refused (Deliver at choice) r = stays same-self refl refl
+  change-refused (Lose at) r = stays same-self refl refl
+  change-refused (Repeat at) r = stays same-self refl refl
+  change-refused (Advance a) r = stays same-self refl refl
+  change-refused (Replace number) r = stays same-self refl refl
+  change-refused (Tell a) r = stays same-self refl refl
+  change-refused (Remove a) r = stays same-self refl refl
+  change-refused (GiveUp o) r = stays same-self refl refl
+  change-refused (BeginContext x) r = stays same-self refl refl
 
   change-begin : (step : Step) (k : Kind) → noted step Done h ≡ begun (suc (begunCount h)) k ∷ h → openNoted step Done h l ≡ suc (begunCount h) ∷ l
       → (isWrite : Bool) (x v : ℕ) → Opens step (beginOperation (g .opens) (g .held) isWrite x v)
@@ -95,49 +102,100 @@ module _ (g : Given) (h : History) (l : List ℕ) where
       both P (leb limits.objects x) (change-refused step ObjectNumber)
       (both P (leb limits.lastOperation (lastGiven (g .opens))) (change-refused step OperationsUsedUp)
       (by-test P (roomToOpen (g .opens)) _ _
-      (λ room. both P (overfull (g .held) 0 1) (change-refused step WaitingFull) (begins k room refl notes opens))
+      (λ room. both P (overfull (g .held) 0 1) (change-refused step WaitingFull) (begins k room same-self notes opens))
       (λ full. change-refused step OpenFull)))
 
+  change-context : (x : Objects) → Opens (BeginContext x) (beginContext (g .opens) (g .held) x)
+  unfolding beginContext
+  change-context x =
+      let step : Step = BeginContext x in
+      let P : Opened → Type 0 = Opens step in
+      both P (areObjects (contextOf x))
+      (both P (areDifferent (contextOf x))
+      (both P (leb limits.lastOperation (lastGiven (g .opens))) (change-refused step OperationsUsedUp)
+      (by-test P (roomToOpen (g .opens)) _ _
+      (λ room. both P (overfull (g .held) 0 1) (change-refused step WaitingFull)
+      (both P (ltb (freeRow (g .opens)) limits.contexts)
+      (begins (reads (numbersOf (contextOf x))) room (opens-holding (opening (g .opens) (lastGiven (g .opens) + 1)) (freeRow (g .opens)) (contextOf x)) refl refl)
+      (change-refused step WaitingFull)))
+      (λ full. change-refused step OpenFull)))
+      (change-refused step SameObject))
+      (change-refused step ObjectNumber)
+
   change-message : (at choice : ℕ) (msg : Message) → Changes (Deliver at choice) (deliveredMessage g at choice msg)
-  unfolding deliveredMessage stamping unstampedWrite switchRead stampedWrite directRead normalRead completion reply refusing dropping passing
+  unfolding deliveredMessage stamping unstampedWrite switchRead stampedWrite directRead normalRead completion reply contextRead directContext normalContext contextReply droppingRow answeringContext refusing dropping passing
   change-message at choice (UnstampedWrite p x v) =
       both (Switches (Deliver at choice)) (allPermit (g .store) (numberIn (g .switch)))
       (both (λ (d : Decision). Switches (Deliver at choice) (switched d (marked (g .switch) x))) (eqb (stampFor (g .switch) x) 0)
-      (stays refl refl refl) (stays refl refl refl)) (stays refl refl refl)
+      (stays same-self refl refl) (stays same-self refl refl)) (stays same-self refl refl)
   change-message at choice (SwitchRead p x) =
       let P : Decision → Type 0 = Decides (Deliver at choice) in
-      both P (directIn (g .switch)) (both P (eqb (lookedUp (g .switch) x) 0) (stays refl refl refl) (stays refl refl refl)) (stays refl refl refl)
+      both P (directIn (g .switch)) (both P (eqb (lookedUp (g .switch) x) 0) (stays same-self refl refl) (stays same-self refl refl)) (stays same-self refl refl)
   change-message at choice (StampedWrite r w) =
       let P : Stored → Type 0 = Stores (Deliver at choice) in
       both P (accepts (g .store) r (w .stamp))
-      (both P (eqb r (tailOf (g .store))) (both P (overfull (g .held) 1 2) (stays refl refl refl) (stays refl refl refl)) (stays refl refl refl))
-      (stays refl refl refl)
+      (both P (eqb r (tailOf (g .store))) (both P (overfull (g .held) 1 2) (stays same-self refl refl) (stays same-self refl refl)) (stays same-self refl refl))
+      (stays same-self refl refl)
   change-message at choice (DirectRead r number t p x) =
       let P : Decision → Type 0 = Decides (Deliver at choice) in
-      both P (isLive (g .store) r) (both P (answersDirect (g .store) r x number t) (stays refl refl refl) (stays refl refl refl)) (stays refl refl refl)
-  change-message at choice (NormalRead r p x c) = both (Decides (Deliver at choice)) (isLive (g .store) r) (stays refl refl refl) (stays refl refl refl)
-  change-message at choice (Completion x t) = stays refl refl refl
+      both P (isLive (g .store) r) (both P (answersDirect (g .store) r x number t) (stays same-self refl refl) (stays same-self refl refl)) (stays same-self refl refl)
+  change-message at choice (NormalRead r p x c) = both (Decides (Deliver at choice)) (isLive (g .store) r) (stays same-self refl refl) (stays same-self refl refl)
+  change-message at choice (Completion x t) = stays same-self refl refl
   change-message at choice (Reply p v c f) =
-      by-test (Opens (Deliver at choice)) (isOpen (g .opens) p) _ _ (λ still. finishes p v still refl refl refl) (λ closed. stays refl refl refl)
-  change-message at choice Unknown = stays refl refl refl
+      by-test (Opens (Deliver at choice)) (isOpen (g .opens) p) _ _ (λ still. finishes p (v ∷ []) still same-self refl refl) (λ closed. stays same-self refl refl)
+  change-message at choice (ContextRead o r) =
+      let P : Opened → Type 0 = Opens (Deliver at choice) in
+      both P (isContext (contextAt (g .opens) r))
+      (both P (goesDirectly (g .switch) (contextAt (g .opens) r)) (stays same-self refl refl) (stays same-self refl refl)) (stays (opens-freeing (g .opens) r) refl refl)
+  change-message at choice (DirectContext q number t o r) =
+      let P : Opened → Type 0 = Opens (Deliver at choice) in
+      both P (isLive (g .store) q)
+      (both P (isContext (contextAt (g .opens) r))
+      (both P (answersContext (g .store) q number t (contextAt (g .opens) r)) (stays (opens-holding (g .opens) r _) refl refl) (stays same-self refl refl))
+      (stays (opens-freeing (g .opens) r) refl refl)) (stays (opens-freeing (g .opens) r) refl refl)
+  change-message at choice (NormalContext q o r) =
+      let P : Opened → Type 0 = Opens (Deliver at choice) in
+      both P (isLive (g .store) q)
+      (both P (isContext (contextAt (g .opens) r)) (stays (opens-holding (g .opens) r _) refl refl) (stays (opens-freeing (g .opens) r) refl refl))
+      (stays (opens-freeing (g .opens) r) refl refl)
+  change-message at choice (ContextReply o r) =
+      let P : Opened → Type 0 = Opens (Deliver at choice) in
+      by-test P (isOpen (g .opens) o) _ _
+      (λ still. both P (isCount (contextAt (g .opens) r .count)) (finishes o _ still (opens-freeing (closing (g .opens) o) r) refl refl)
+      (stays (opens-freeing (g .opens) r) refl refl))
+      (λ closed. stays (opens-freeing (g .opens) r) refl refl)
+  change-message at choice Unknown = stays same-self refl refl
+
+  change-leaves : (x : Step) → noted x Done h ≡ h → openNoted x Done h l ≡ l → (p : Packet) (at : ℕ) → Opens x (leaving (g .opens) p at)
+  unfolding leaving released dropping
+  change-leaves x notes opens p at =
+      both (λ (k : List ℕ). Opens x (opened (dropping at) k)) (isOfContext p) (stays (opens-freeing (g .opens) (p .value)) notes opens) (stays same-self notes opens)
 
   change-decided : (p : Packet) (x : Step) → Changes x (decided g p x)
-  unfolding decided delivered givingUp dropping refusing
-  change-decided p (Start n) = stays refl refl refl
+  unfolding decided delivered lost copied repeated givingUp dropping refusing
+  change-decided p (Start n) = stays same-self refl refl
   change-decided p (BeginRead x) = change-begin (BeginRead x) (reads (x ∷ [])) refl refl false x 0
   change-decided p (BeginWrite x v) = change-begin (BeginWrite x v) (writes x v) refl refl true x v
   change-decided p (Deliver at choice) =
       let P : Outcome → Type 0 = Changes (Deliver at choice) in
-      both P (leb (g .held) at) (stays refl refl refl)
-      (both P (leb limits.objects (p .object)) (stays refl refl refl) (change-message at choice (messageOf p)))
-  change-decided p (Lose at) = stays refl refl refl
-  change-decided p (Repeat at) = stays refl refl refl
-  change-decided p (Advance r) = stays refl refl refl
-  change-decided p (Replace number) = stays refl refl refl
-  change-decided p (Tell r) = stays refl refl refl
-  change-decided p (Remove r) = stays refl refl refl
+      both P (leb (g .held) at) (stays same-self refl refl)
+      (both P (leb limits.objects (p .object)) (change-leaves (Deliver at choice) refl refl p at) (change-message at choice (messageOf p)))
+  change-decided p (Lose at) = both (Opens (Lose at)) (leb (g .held) at) (stays same-self refl refl) (change-leaves (Lose at) refl refl p at)
+  change-decided p (Repeat at) =
+      let P : Opened → Type 0 = Opens (Repeat at) in
+      both P (leb (g .held) at) (stays same-self refl refl)
+      (both P (isUnstamped p) (stays same-self refl refl)
+      (both P (overfull (g .held) 0 1) (stays same-self refl refl)
+      (both P (isOfContext p)
+      (both P (ltb (freeRow (g .opens)) limits.contexts) (stays (opens-holding (g .opens) (freeRow (g .opens)) _) refl refl) (stays same-self refl refl))
+      (stays same-self refl refl))))
+  change-decided p (Advance r) = stays same-self refl refl
+  change-decided p (Replace number) = stays same-self refl refl
+  change-decided p (Tell r) = stays same-self refl refl
+  change-decided p (Remove r) = stays same-self refl refl
   change-decided p (GiveUp o) =
-      by-test (Opens (GiveUp o)) (isOpen (g .opens) o) _ _ (λ still. gives-up o still refl refl refl) (λ closed. stays refl refl refl)
+      by-test (Opens (GiveUp o)) (isOpen (g .opens) o) _ _ (λ still. gives-up o still same-self refl refl) (λ closed. stays same-self refl refl)
+  change-decided p (BeginContext x) = change-context x
 
   change-in : (places : ℕ) (p : Packet) (x : Step) → Changes x (decidedIn places g p x)
   unfolding decidedIn
@@ -191,6 +249,15 @@ record Same (cells l : List ℕ) : Type 0 where
   pub kept : (o : ℕ) → o ∈ l → isOpen cells o ≡ true
   pub distinct : Pairwise {A = ℕ} _≢_ l
 
+-- the cells behind them do not matter
+same-kept : {cells cells' l : List ℕ} → SameOpens cells cells' → Same cells l → Same cells' l
+same-kept c s = record {
+  counted = same-count c ∙ s .counted;
+  listed = λ o e. s .listed o (sym (same-open c o) ∙ e);
+  kept = λ o i. same-open c o ∙ s .kept o i;
+  distinct = s .distinct;
+}
+
 same-none : Same noneOpen []
 same-none = record { counted = count-none; listed = λ o e. absurd (none-open o e); kept = λ o i. absurd (no-member i); distinct = tt }
 
@@ -223,10 +290,10 @@ module _ {m : Machine} {h : History} {es : List Entry} (g : Good m h es) {l : Li
       }
 
   same-changed : {cells' : List ℕ} {h' : History} {l' : List ℕ} → Change (m .opens) h l cells' h' l' → Same cells' l'
-  same-changed (stays c e q) = rw (c, q) s
-  same-changed (begins k room c e q) = rw (c, q) (same-opening room)
-  same-changed (finishes o v was c e q) = rw (c, q) (same-closing o was)
-  same-changed (gives-up o was c e q) = rw (c, q) (same-closing o was)
+  same-changed (stays c e q) = rw q (same-kept c s)
+  same-changed (begins k room c e q) = rw q (same-kept c (same-opening room))
+  same-changed (finishes o vs was c e q) = rw q (same-kept c (same-closing o was))
+  same-changed (gives-up o was c e q) = rw q (same-kept c (same-closing o was))
 
 same-reached : {m : Machine} {h : History} {es : List Entry} → Good m h es → {l : List ℕ} → Same (m .opens) l → (xs : List Step)
     → Same (reached m xs .opens) (openFrom m h l xs)

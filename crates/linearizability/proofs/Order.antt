@@ -22,7 +22,7 @@ use Rattle.protocol.specs.declared.Message.{Message}
 use Rattle.protocol.specs.declared.Message.the-variants.{Completion, Reply}
 use Rattle.linearizability.proofs.Members.{has, has-true, has-false}
 use Rattle.linearizability.proofs.Visible.{entry, shows}
-use Rattle.linearizability.proofs.Packets.{Answered}
+use Rattle.linearizability.proofs.Packets.{Answered, AnsweredContext}
 use Rattle.linearizability.proofs.Core.{Core, core-finish, core-reply, core-reveal, core-sent}
 
 -- the objects that an operation of this kind reads
@@ -58,10 +58,10 @@ in-drop {A} {x} n l m = subst (λ (k : List A). x ∈ k) (take-append-drop n l) 
 abbrev pub Sent : List Write → List Message → Type 0
 Sent ws ms = (ms ≡ []) ⊎ ((w : Write) × (ws ≡ w ∷ []) × (ms ≡ Reply (w .operation) (w .value) 0 noFreshness ∷ Completion (w .object) (w .stamp) ∷ []))
 
-module _ {h : History} {es : List Entry} {issued log : List Write} {n : ℕ} {messages : List Message} {c : ℕ} (k : Core h es issued log n messages c) where
+module _ {h : History} {es : List Entry} {issued log : List Write} {n : ℕ} {messages : List Message} {c : ℕ} {opens : List ℕ} (k : Core h es issued log n messages c opens) where
   -- the tail has applied the first n' writes, and sends for the new ones
   pub core-outcome : {n' : ℕ} → n ≤ n' → n' ≤ length log → (ms : List Message) → Sent (slice n n' log) ms
-      → Core h (shows es (slice n n' log)) issued log n' (messages ++ ms) c
+      → Core h (shows es (slice n n' log)) issued log n' (messages ++ ms) c opens
   core-outcome {n'} g l ms (inl e) = rw (e, append-nil) (core-reveal k n' g l)
   core-outcome {n'} g l ms (inr t) =
       rw (t .2) (core-sent (core-reveal k n' g l) (t .0) (in-drop n (take n' log) (rw (t .1) (here refl))) (rw (t .1) (inserted es (entry (t .0)) [])))
@@ -88,6 +88,10 @@ module _ {h : History} {es : List Entry} {issued log : List Write} {n : ℕ} {me
       )
 
   -- an operation that has been answered finishes
-  pub core-finishes : (o v d s : ℕ) → Answered h es o v d s → Unfinished h o → Core (finished o (v ∷ []) ∷ h) (finishOrder h o (v ∷ []) es) issued log n messages c
+  pub core-finishes : (o v d s : ℕ) → Answered h es o v d s → Unfinished h o → Core (finished o (v ∷ []) ∷ h) (finishOrder h o (v ∷ []) es) issued log n messages c opens
   core-finishes o v d s (inl f) w = rw (finish-in o (v ∷ []) (f .0)) (core-finish k (f .0))
   core-finishes o v d s (inr f) w = let r = finish-read o (f .0 ∷ []) (v ∷ []) (f .1) w (f .3) in rw (r .1) (core-reply k (f .1) w (r .0))
+
+  -- so does a read of a whole context
+  pub context-finishes : (o : ℕ) (vs : List ℕ) → AnsweredContext h es o vs → Unfinished h o → Core (finished o vs ∷ h) (finishOrder h o vs es) issued log n messages c opens
+  context-finishes o vs f w = let r = finish-read o (f .0) vs (f .1) w (f .3) in rw (r .1) (core-reply k (f .1) w (r .0))

@@ -9,10 +9,13 @@ use Rattle.history.proofs.Lists.{here, there, no-member, only-member, cases-con
 use Rattle.history.proofs.Entries.{Entry, InOrder}
 use Rattle.history.proofs.Growth.{begun-at}
 use Rattle.history.proofs.Readable.{Readable}
+use Rattle.contexts.specs.declared.Context.{Context}
+use Rattle.contexts.specs.{numbersOf, sizeAt, contextAt}
+use Rattle.contexts.proofs.Rows.{Apart, size-is}
 use Rattle.store.specs.declared.Write.{Write}
 use Rattle.protocol.specs.Answers.{newRead}
 use Rattle.protocol.specs.declared.Message.{Message}
-use Rattle.protocol.specs.declared.Message.the-variants.{UnstampedWrite, SwitchRead, StampedWrite, DirectRead, NormalRead, Completion, Reply, Unknown}
+use Rattle.protocol.specs.declared.Message.the-variants.{UnstampedWrite, SwitchRead, StampedWrite, DirectRead, NormalRead, Completion, Reply, ContextRead, DirectContext, NormalContext, ContextReply, Unknown}
 use Rattle.linearizability.proofs.Visible.{Wrote}
 
 -- a reply of operation o, with value v, carried stamp c and freshness f: o is in the order with that value, and the reply is not `new`; or it is a read that can be put into
@@ -22,16 +25,28 @@ Answered h es o v c f =
     (InOrder es o (v ∷ []) × (f ≢ newRead))
     ⊎ ((x : ℕ) × (begun o (reads (x ∷ [])) ∈ h) × (was : List Entry) × Readable h es o (x ∷ []) (v ∷ []) was × (f ≡ newRead → Wrote x c was))
 
--- what holds of a message; t is the tail's highest stamp
-abbrev pub Fine : History → List Entry → List Write → ℕ → Message → Type 0
-Fine h es issued t (UnstampedWrite o x v) = begun o (writes x v) ∈ h
-Fine h es issued t (SwitchRead o x) = begun o (reads (x ∷ [])) ∈ h
-Fine h es issued t (StampedWrite r w) = w ∈ issued
-Fine h es issued t (DirectRead r number c o x) = (begun o (reads (x ∷ [])) ∈ h) × (c ≤ t)
-Fine h es issued t (NormalRead r o x c) = begun o (reads (x ∷ [])) ∈ h
-Fine h es issued t (Completion x s) = s ≤ t
-Fine h es issued t (Reply o v c f) = Answered h es o v c f
-Fine h es issued t Unknown = Unit {0}
+-- a reply of a read o of a whole context: it can be put into the order with those values
+abbrev pub AnsweredContext : History → List Entry → ℕ → List ℕ → Type 0
+AnsweredContext h es o vs = (xs : List ℕ) × (begun o (reads xs) ∈ h) × (was : List Entry) × Readable h es o xs vs was
+
+-- the numbers of row r
+abbrev pub rowNumbers : List ℕ → ℕ → List ℕ
+rowNumbers opens r = numbersOf (contextAt opens r)
+
+-- what holds of a message; t is the tail's highest stamp, and opens has the rows of the contexts
+abbrev pub Fine : History → List Entry → List Write → ℕ → List ℕ → Message → Type 0
+Fine h es issued t opens (UnstampedWrite o x v) = begun o (writes x v) ∈ h
+Fine h es issued t opens (SwitchRead o x) = begun o (reads (x ∷ [])) ∈ h
+Fine h es issued t opens (StampedWrite r w) = w ∈ issued
+Fine h es issued t opens (DirectRead r number c o x) = (begun o (reads (x ∷ [])) ∈ h) × (c ≤ t)
+Fine h es issued t opens (NormalRead r o x c) = begun o (reads (x ∷ [])) ∈ h
+Fine h es issued t opens (Completion x s) = s ≤ t
+Fine h es issued t opens (Reply o v c f) = Answered h es o v c f
+Fine h es issued t opens (ContextRead o r) = begun o (reads (rowNumbers opens r)) ∈ h
+Fine h es issued t opens (DirectContext q number c o r) = (begun o (reads (rowNumbers opens r)) ∈ h) × (c ≤ t)
+Fine h es issued t opens (NormalContext q o r) = begun o (reads (rowNumbers opens r)) ∈ h
+Fine h es issued t opens (ContextReply o r) = AnsweredContext h es o (rowNumbers opens r)
+Fine h es issued t opens Unknown = Unit {0}
 
 -- the message is the unstamped write of operation p
 abbrev pub Asks : Message → ℕ → Type 0
@@ -42,22 +57,54 @@ Asks (DirectRead r number c o x) p = ⊥
 Asks (NormalRead r o x c) p = ⊥
 Asks (Completion x s) p = ⊥
 Asks (Reply o v c f) p = ⊥
+Asks (ContextRead o r) p = ⊥
+Asks (DirectContext q number c o r) p = ⊥
+Asks (NormalContext q o r) p = ⊥
+Asks (ContextReply o r) p = ⊥
 Asks Unknown p = ⊥
+
+-- the message names row s
+abbrev pub Names : Message → ℕ → Type 0
+Names (UnstampedWrite o x v) s = ⊥
+Names (SwitchRead o x) s = ⊥
+Names (StampedWrite r w) s = ⊥
+Names (DirectRead r number c o x) s = ⊥
+Names (NormalRead r o x c) s = ⊥
+Names (Completion x t) s = ⊥
+Names (Reply o v c f) s = ⊥
+Names (ContextRead o r) s = r ≡ s
+Names (DirectContext q number c o r) s = r ≡ s
+Names (NormalContext q o r) s = r ≡ s
+Names (ContextReply o r) s = r ≡ s
+Names Unknown s = ⊥
 
 -- two messages are not the unstamped writes of one operation
 abbrev pub Differ : Message → Message → Type 0
 Differ m q = (o : ℕ) → Asks m o → Asks q o → ⊥
 
+-- two messages name different rows
+abbrev pub Others : Message → Message → Type 0
+Others m q = (r s : ℕ) → Names m r → Names q s → Apart r s
+
 -- what holds of the waiting messages
-pub record Packets (h : History) (es : List Entry) (issued : List Write) (t : ℕ) (messages : List Message) : Type 0 where
-  pub fine : (m : Message) → m ∈ messages → Fine h es issued t m
+pub record Packets (h : History) (es : List Entry) (issued : List Write) (t : ℕ) (opens : List ℕ) (messages : List Message) : Type 0 where
+  pub fine : (m : Message) → m ∈ messages → Fine h es issued t opens m
   -- an operation's unstamped write waits once at the most, and then has no stamp yet
   pub once : Pairwise Differ messages
   pub unstamped : (m : Message) (o : ℕ) → m ∈ messages → Asks m o → (w : Write) → w ∈ issued → w .operation ≢ o
+  -- waiting messages name different rows, none of which is free
+  pub apart : Pairwise Others messages
+  pub used : (m : Message) (r : ℕ) → m ∈ messages → Names m r → sizeAt opens r ≢ 0
 
 -- no packet waits
-pub packets-start : {h : History} {es : List Entry} {issued : List Write} {t : ℕ} → Packets h es issued t []
-packets-start = record { fine = λ m i. absurd (no-member i); once = tt; unstamped = λ m o i. absurd (no-member i) }
+pub packets-start : {h : History} {es : List Entry} {issued : List Write} {t : ℕ} {opens : List ℕ} → Packets h es issued t opens []
+packets-start = record {
+  fine = λ m i. absurd (no-member i);
+  once = tt;
+  unstamped = λ m o i. absurd (no-member i);
+  apart = tt;
+  used = λ m r i. absurd (no-member i);
+}
 
 -- ---- the facts stay true
 
@@ -78,24 +125,31 @@ module _ {h : History} {es : List Entry} {issued : List Write} {t : ℕ} where
 
   -- what holds of a message stays true
   pub fine-grows : {h' : History} {es' : List Entry} {issued' : List Write} {t' : ℕ} → Grows h es issued t h' es' issued' t'
-      → (m : Message) → Fine h es issued t m → Fine h' es' issued' t' m
-  fine-grows g (UnstampedWrite o x v) f = g .events _ f
-  fine-grows g (SwitchRead o x) f = g .events _ f
-  fine-grows g (StampedWrite r w) f = g .issues w f
-  fine-grows g (DirectRead r number c o x) f = (g .events _ (f .0), omega (arith, g .tops, f .1))
-  fine-grows g (NormalRead r o x c) f = g .events _ f
-  fine-grows g (Completion x s) f = omega (arith, g .tops, f)
-  fine-grows g (Reply o v c s) (inl f) = let i = f .0 in inl ((i .0, g .entries (i .0) (i .1), i .2, i .3), f .1)
-  fine-grows g (Reply o v c s) (inr f) = inr (f .0, g .events _ (f .1), f .2, g .reading o (f .0 ∷ []) (v ∷ []) (f .2) (reads (f .0 ∷ []), f .1) (f .3), f .4)
-  fine-grows g Unknown f = tt
+      → (opens : List ℕ) (m : Message) → Fine h es issued t opens m → Fine h' es' issued' t' opens m
+  fine-grows g opens (UnstampedWrite o x v) f = g .events _ f
+  fine-grows g opens (SwitchRead o x) f = g .events _ f
+  fine-grows g opens (StampedWrite r w) f = g .issues w f
+  fine-grows g opens (DirectRead r number c o x) f = (g .events _ (f .0), omega (arith, g .tops, f .1))
+  fine-grows g opens (NormalRead r o x c) f = g .events _ f
+  fine-grows g opens (Completion x s) f = omega (arith, g .tops, f)
+  fine-grows g opens (Reply o v c s) (inl f) = let i = f .0 in inl ((i .0, g .entries (i .0) (i .1), i .2, i .3), f .1)
+  fine-grows g opens (Reply o v c s) (inr f) = inr (f .0, g .events _ (f .1), f .2, g .reading o (f .0 ∷ []) (v ∷ []) (f .2) (reads (f .0 ∷ []), f .1) (f .3), f .4)
+  fine-grows g opens (ContextRead o r) f = g .events _ f
+  fine-grows g opens (DirectContext q number c o r) f = (g .events _ (f .0), omega (arith, g .tops, f .1))
+  fine-grows g opens (NormalContext q o r) f = g .events _ f
+  fine-grows g opens (ContextReply o r) f =
+      (f .0, g .events _ (f .1), f .2, g .reading o (f .0) (rowNumbers opens r) (f .2) (reads (f .0), f .1) (f .3))
+  fine-grows g opens Unknown f = tt
 
+module _ {h : History} {es : List Entry} {issued : List Write} {t : ℕ} {opens : List ℕ} where
   -- what holds of the waiting messages stays true
   pub packets-grows : {h' : History} {es' : List Entry} {t' : ℕ} {messages : List Message} → Grows h es issued t h' es' issued t'
-      → Packets h es issued t messages → Packets h' es' issued t' messages
-  packets-grows g b = record { fine = λ m i. fine-grows g m (b .fine m i); once = b .once; unstamped = b .unstamped }
+      → Packets h es issued t opens messages → Packets h' es' issued t' opens messages
+  packets-grows g b =
+      record { fine = λ m i. fine-grows g opens m (b .fine m i); once = b .once; unstamped = b .unstamped; apart = b .apart; used = b .used }
 
   -- the operation of an unstamped write that waits was begun
-  pub packets-begun : {messages : List Message} → Packets h es issued t messages → (m : Message) {o : ℕ} → m ∈ messages → Asks m o → Begun h o
+  pub packets-begun : {messages : List Message} → Packets h es issued t opens messages → (m : Message) {o : ℕ} → m ∈ messages → Asks m o → Begun h o
   packets-begun p (UnstampedWrite q x v) i a = (writes x v, begun-at a (p .fine (UnstampedWrite q x v) i))
   packets-begun p (SwitchRead q x) i a = absurd a
   packets-begun p (StampedWrite r w) i a = absurd a
@@ -103,48 +157,61 @@ module _ {h : History} {es : List Entry} {issued : List Write} {t : ℕ} where
   packets-begun p (NormalRead r q x c) i a = absurd a
   packets-begun p (Completion x s) i a = absurd a
   packets-begun p (Reply q v c f) i a = absurd a
+  packets-begun p (ContextRead q r) i a = absurd a
+  packets-begun p (DirectContext b number c q r) i a = absurd a
+  packets-begun p (NormalContext b q r) i a = absurd a
+  packets-begun p (ContextReply q r) i a = absurd a
   packets-begun p Unknown i a = absurd a
 
   -- ---- messages leave the list and join it
 
   -- one is lost or delivered
-  pub packets-lose : (a : List Message) (m : Message) (b : List Message) → Packets h es issued t (a ++ m ∷ b) → Packets h es issued t (a ++ b)
+  pub packets-lose : (a : List Message) (m : Message) (b : List Message) → Packets h es issued t opens (a ++ m ∷ b) → Packets h es issued t opens (a ++ b)
   packets-lose a m b p = record {
     fine = λ q i. p .fine q (in-insert a m b i);
     once = pairwise-remove Differ a m b (p .once);
     unstamped = λ q o i k. p .unstamped q o (in-insert a m b i) k;
+    apart = pairwise-remove Others a m b (p .apart);
+    used = λ q r i n. p .used q r (in-insert a m b i) n;
   }
 
-  -- one joins the list; if it is an unstamped write, none of its operation waits and none is stamped
-  packets-join : (messages : List Message) (m : Message) → Fine h es issued t m
+  -- one joins the list; if it is an unstamped write, none of its operation waits and none is stamped; if it names a row, that is not free, and no other that waits names it
+  pub packets-join : (messages : List Message) (m : Message) → Fine h es issued t opens m
       → ((o : ℕ) → Asks m o → ((q : Message) → q ∈ messages → Asks q o → ⊥) × ((w : Write) → w ∈ issued → w .operation ≢ o))
-      → Packets h es issued t messages → Packets h es issued t (messages ++ m ∷ [])
-  packets-join messages m f new p = record {
-    fine = λ q i. elim (cases-append messages i) [ inl j ↦ p .fine q j | inr j ↦ subst (Fine h es issued t) (sym (only-member j)) f ];
+      → ((q : Message) → q ∈ messages → Others q m) → ((r : ℕ) → Names m r → sizeAt opens r ≢ 0)
+      → Packets h es issued t opens messages → Packets h es issued t opens (messages ++ m ∷ [])
+  packets-join messages m f new rows held p = record {
+    fine = λ q i. elim (cases-append messages i) [ inl j ↦ p .fine q j | inr j ↦ subst (Fine h es issued t opens) (sym (only-member j)) f ];
     once = pairwise-snoc Differ messages m (p .once) (λ q i o k l. new o l .0 q i k);
     unstamped = λ q o i k. elim (cases-append messages i) [
       | inl j ↦ p .unstamped q o j k
       | inr j ↦ new o (subst (λ (z : Message). Asks z o) (only-member j) k) .1
     ];
+    apart = pairwise-snoc Others messages m (p .apart) rows;
+    used = λ q r i n. elim (cases-append messages i) [
+      | inl j ↦ p .used q r j n
+      | inr j ↦ held r (subst (λ (z : Message). Names z r) (only-member j) n)
+    ];
   }
 
-  -- one that is no unstamped write
-  pub packets-add : (messages : List Message) (m : Message) → Fine h es issued t m → ((o : ℕ) → Asks m o → ⊥)
-      → Packets h es issued t messages → Packets h es issued t (messages ++ m ∷ [])
-  packets-add messages m f n = packets-join messages m f (λ o a. absurd (n o a))
+  -- one that is no unstamped write, and names no row
+  pub packets-add : (messages : List Message) (m : Message) → Fine h es issued t opens m → ((o : ℕ) → Asks m o → ⊥) → ((r : ℕ) → Names m r → ⊥)
+      → Packets h es issued t opens messages → Packets h es issued t opens (messages ++ m ∷ [])
+  packets-add messages m f n k = packets-join messages m f (λ o a. absurd (n o a)) (λ q i r s a b. absurd (k s b)) (λ r b. absurd (k r b))
 
   -- the unstamped write of an operation of which none waits and none is stamped
   pub packets-ask : (messages : List Message) (o x v : ℕ) → begun o (writes x v) ∈ h → ((q : Message) → q ∈ messages → Asks q o → ⊥)
-      → ((w : Write) → w ∈ issued → w .operation ≢ o) → Packets h es issued t messages → Packets h es issued t (messages ++ UnstampedWrite o x v ∷ [])
+      → ((w : Write) → w ∈ issued → w .operation ≢ o) → Packets h es issued t opens messages → Packets h es issued t opens (messages ++ UnstampedWrite o x v ∷ [])
   packets-ask messages o x v f n u =
       packets-join messages (UnstampedWrite o x v) f (λ p e. (λ q i k. n q i (subst (Asks q) (sym e) k), λ w j z. u w j (z ∙ sym e)))
+      (λ q i r s a b. absurd b) (λ r b. absurd b)
 
 -- the switch stamps a write: its unstamped message goes, the stamped one comes
-pub packets-stamp : {h : History} {es : List Entry} {issued : List Write} {t : ℕ} (a b : List Message) (w : Write) (r : ℕ)
-    → Packets h es issued t (a ++ UnstampedWrite (w .operation) (w .object) (w .value) ∷ b)
-    → Packets h es (issued ++ w ∷ []) t (a ++ b ++ StampedWrite r w ∷ [])
-packets-stamp {h} {es} {issued} {t} a b w r p = packets-add (a ++ b) (StampedWrite r w) (in-right issued (here refl)) (λ o k. k) (record {
-  fine = λ q i. fine-grows longer q (rest .fine q i);
+pub packets-stamp : {h : History} {es : List Entry} {issued : List Write} {t : ℕ} {opens : List ℕ} (a b : List Message) (w : Write) (r : ℕ)
+    → Packets h es issued t opens (a ++ UnstampedWrite (w .operation) (w .object) (w .value) ∷ b)
+    → Packets h es (issued ++ w ∷ []) t opens (a ++ b ++ StampedWrite r w ∷ [])
+packets-stamp {h} {es} {issued} {t} {opens} a b w r p = packets-add (a ++ b) (StampedWrite r w) (in-right issued (here refl)) (λ o k. k) (λ o k. k) (record {
+  fine = λ q i. fine-grows longer opens q (rest .fine q i);
   once = rest .once;
   unstamped = λ q o i k u j e. elim (cases-append issued j) [
     | inl l ↦ rest .unstamped q o i k u l e
@@ -152,16 +219,57 @@ packets-stamp {h} {es} {issued} {t} a b w r p = packets-add (a ++ b) (StampedWri
         let z : w .operation ≡ o = sym (ap (λ (v : Write). v .operation) (only-member l)) ∙ e in
         elim (pairwise-at Differ a asked b (p .once) q i) [ inl d ↦ d o z k | inr d ↦ d o k z ]
   ];
+  apart = rest .apart;
+  used = rest .used;
 })
   where
     asked : Message
     asked = UnstampedWrite (w .operation) (w .object) (w .value)
 
-    rest : Packets h es issued t (a ++ b)
+    rest : Packets h es issued t opens (a ++ b)
     rest = packets-lose a asked b p
 
     longer : Grows h es issued t h es (issued ++ w ∷ []) t
     longer = record { events = λ e i. i; entries = λ e i. i; issues = λ u i. in-left (w ∷ []) i; tops = omega arith; reading = λ o xs vs was n d. d }
+
+-- ---- the rows
+
+-- the facts of a message stay true where the row that it names holds what it held
+module _ (h : History) (es : List Entry) (issued : List Write) (t : ℕ) (opens opens' : List ℕ) where
+  -- the same of two contexts
+  moved : (P : List ℕ → Type 0) {v w : Context} → w ≡ v → P (numbersOf v) → P (numbersOf w)
+  moved P e p = subst (λ (k : Context). P (numbersOf k)) (sym e) p
+
+  fine-rows : (m : Message) → ((r : ℕ) → Names m r → contextAt opens' r ≡ contextAt opens r) → Fine h es issued t opens m → Fine h es issued t opens' m
+  fine-rows (UnstampedWrite o x v) same f = f
+  fine-rows (SwitchRead o x) same f = f
+  fine-rows (StampedWrite r w) same f = f
+  fine-rows (DirectRead r number c o x) same f = f
+  fine-rows (NormalRead r o x c) same f = f
+  fine-rows (Completion x t) same f = f
+  fine-rows (Reply o v c s) same f = f
+  fine-rows (ContextRead o r) same f = moved (λ xs. begun o (reads xs) ∈ h) (same r refl) f
+  fine-rows (DirectContext q number c o r) same f = (moved (λ xs. begun o (reads xs) ∈ h) (same r refl) (f .0), f .1)
+  fine-rows (NormalContext q o r) same f = moved (λ xs. begun o (reads xs) ∈ h) (same r refl) f
+  fine-rows (ContextReply o r) same f = moved (AnsweredContext h es o) (same r refl) f
+  fine-rows Unknown same f = f
+
+-- so do those of all that wait
+pub packets-rows : {h : History} {es : List Entry} {issued : List Write} {t : ℕ} {opens opens' : List ℕ} {messages : List Message}
+    → ((q : Message) → q ∈ messages → (r : ℕ) → Names q r → contextAt opens' r ≡ contextAt opens r)
+    → Packets h es issued t opens messages → Packets h es issued t opens' messages
+packets-rows {h} {es} {issued} {t} {opens} {opens'} same p = record {
+  fine = λ m i. fine-rows h es issued t opens opens' m (same m i) (p .fine m i);
+  once = p .once;
+  unstamped = p .unstamped;
+  apart = p .apart;
+  used = λ m r i n e. p .used m r i n (sym (size-is opens r) ∙ ap (λ (v : Context). v .count) (sym (same m i r n)) ∙ size-is opens' r ∙ e);
+}
+
+-- the rows of the others are not that of a message
+pub rows-apart : {h : History} {es : List Entry} {issued : List Write} {t : ℕ} {opens : List ℕ} (a : List Message) (m : Message) (b : List Message)
+    → Packets h es issued t opens (a ++ m ∷ b) → (r : ℕ) → Names m r → (q : Message) → q ∈ a ++ b → (s : ℕ) → Names q s → Apart r s
+rows-apart a m b p r n q i s k = elim (pairwise-at Others a m b (p .apart) q i) [ inl d ↦ d r s n k | inr d ↦ λ e. d s r k n (sym e) ]
 
 -- ---- how many unstamped writes wait
 
@@ -174,6 +282,10 @@ unstampedOne (DirectRead r number t o x) = 0
 unstampedOne (NormalRead r o x c) = 0
 unstampedOne (Completion x t) = 0
 unstampedOne (Reply o v c f) = 0
+unstampedOne (ContextRead o r) = 0
+unstampedOne (DirectContext q number c o r) = 0
+unstampedOne (NormalContext q o r) = 0
+unstampedOne (ContextReply o r) = 0
 unstampedOne Unknown = 0
 
 -- how many unstamped writes a list of messages has
@@ -207,4 +319,8 @@ asks-none (DirectRead r number t o x) n = refl
 asks-none (NormalRead r o x c) n = refl
 asks-none (Completion x t) n = refl
 asks-none (Reply o v c f) n = refl
+asks-none (ContextRead o r) n = refl
+asks-none (DirectContext q number c o r) n = refl
+asks-none (NormalContext q o r) n = refl
+asks-none (ContextReply o r) n = refl
 asks-none Unknown n = refl

@@ -12,7 +12,7 @@ use Rattle.replicas.proofs.Cells.{SizedStore}
 use Rattle.replicas.proofs.Shape.{count-removed, member-removed-before, member-removed-behind}
 use Rattle.replicas.proofs.Descending.{Descending}
 use Rattle.protocol.specs.declared.Message.{Message}
-use Rattle.protocol.specs.declared.Message.the-variants.{UnstampedWrite, SwitchRead, StampedWrite, DirectRead, NormalRead, Completion, Reply, Unknown}
+use Rattle.protocol.specs.declared.Message.the-variants.{UnstampedWrite, SwitchRead, StampedWrite, DirectRead, NormalRead, Completion, Reply, ContextRead, DirectContext, NormalContext, ContextReply, Unknown}
 use Rattle.log.proofs.Moves.{removed-live}
 use Rattle.linearizability.proofs.Invariant.{Placed}
 
@@ -58,4 +58,10 @@ module _ (s : List ℕ) (z : SizedStore s) (d : Descending s) (r : ℕ) (live : 
       e ∙ sym (tail-stays (subst (λ (q : ℕ). isLive (removed s r) q ≡ true) e l))
   placed-removed (Completion x t) p = p
   placed-removed (Reply o v c f) p = p
+  placed-removed (ContextRead o x) p = p
+  placed-removed (DirectContext a number t o x) p = p
+  placed-removed (NormalContext a o x) p = λ l.
+      let e = p (removed-live s r a z live l) in
+      e ∙ sym (tail-stays (subst (λ (q : ℕ). isLive (removed s r) q ≡ true) e l))
+  placed-removed (ContextReply o x) p = p
   placed-removed Unknown p = p

@@ -15,6 +15,7 @@ use Rattle.history.proofs.Tests.{by-test}
 use Rattle.history.proofs.Entries.{Entry, Unfinished}
 use Rattle.history.proofs.Growth.{begun-not-finished}
 use Rattle.operations.specs.{isOpen, lastGiven, roomToOpen, opening, closing}
+use Rattle.operations.proofs.Behind.{SameOpens, same-open, same-last}
 use Rattle.operations.proofs.Laws.{last-opening, open-before, last-closing, open-after-closing}
 use Rattle.store.specs.declared.Write.{Write}
 use Rattle.chain.specs.{chainPlace}
@@ -35,8 +36,8 @@ use Rattle.log.proofs.Shows.{head-place}
 use Rattle.linearizability.specs.Run.{noted, historyFrom, historyOf}
 use Rattle.linearizability.proofs.Waits.{messages}
 use Rattle.linearizability.proofs.Invariant.{EndsOnce, Good}
-use Rattle.linearizability.proofs.Deliveries.{unfinished-other}
-use Rattle.linearizability.proofs.Steps.{unfinished-begin, both}
+use Rattle.linearizability.proofs.Deliveries.{both, unfinished-other}
+use Rattle.linearizability.proofs.Steps.{unfinished-begin}
 use Rattle.linearizability.proofs.OneOrder.{good-after}
 use Rattle.linearizability.proofs.Limits.{reached, machineOf, good-run, linked-within}
 use Rattle.linearizability.proofs.Opens.{Change, stays, begins, finishes, gives-up, change}
@@ -86,6 +87,10 @@ finished-once n low high row xs = ends-ahead (historyOf n row xs) (good-run n lo
 abbrev Shut : List ℕ → ℕ → Type 0
 Shut opens o = (isOpen opens o ≡ true → ⊥) × (o ≤ lastGiven opens)
 
+-- whatever the cells behind the open operations hold
+shut-kept : {cells cells' : List ℕ} {o : ℕ} → SameOpens cells cells' → Shut cells o → Shut cells' o
+shut-kept {o} c s = (λ e. s .0 (sym (same-open c o) ∙ e), rw (same-last c) (s .1))
+
 -- every step leaves it so, and does not finish it
 module _ {m : Machine} {h : History} {es : List Entry} (g : Good m h es) (o : ℕ) (s : Shut (m .opens) o) (u : Unfinished h o) where
   shut-opening : roomToOpen (m .opens) ≡ true → Shut (opening (m .opens) (lastGiven (m .opens) + 1)) o
@@ -102,11 +107,11 @@ module _ {m : Machine} {h : History} {es : List Entry} (g : Good m h es) (o : �
   )
 
   shut-changed : {l cells' l' : List ℕ} {h' : History} → Change (m .opens) h l cells' h' l' → Shut cells' o × Unfinished h' o
-  shut-changed (stays c e q) = (rw c s, rw e u)
-  shut-changed (begins k room c e q) = (rw c (shut-opening room), rw e (unfinished-begin u))
-  shut-changed (finishes p v still c e q) =
-      (rw c (shut-closing p still), rw e (unfinished-other (λ d. s .0 (subst (λ (i : ℕ). isOpen (m .opens) i ≡ true) (sym d) still)) u))
-  shut-changed (gives-up p still c e q) = (rw c (shut-closing p still), rw e u)
+  shut-changed (stays c e q) = (shut-kept c s, rw e u)
+  shut-changed (begins k room c e q) = (shut-kept c (shut-opening room), rw e (unfinished-begin u))
+  shut-changed (finishes p vs still c e q) =
+      (shut-kept c (shut-closing p still), rw e (unfinished-other (λ d. s .0 (subst (λ (i : ℕ). isOpen (m .opens) i ≡ true) (sym d) still)) u))
+  shut-changed (gives-up p still c e q) = (shut-kept c (shut-closing p still), rw e u)
 
 -- so no step of the rest of the run finishes it
 shut-run : {m : Machine} {h : History} {es : List Entry} → Good m h es → (o : ℕ) → Shut (m .opens) o → Unfinished h o → (xs : List Step)

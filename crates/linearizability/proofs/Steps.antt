@@ -1,15 +1,15 @@
 -- Every step keeps the invariant.
 use mathlib.Core.Path.{_≡_, refl, sym, ap, _∙_, subst}
-use mathlib.Core.Bool.{Bool, true, false, cond}
+use mathlib.Core.Bool.{Bool, true, false, cond, not}
 use mathlib.Core.List.{List, [], _∷_, _++_, append-nil}
 use mathlib.Core.Logic.{inl, inr}
-use Prim.Native.Nat.{ℕ, suc, _+_, _≤_, _<_}
+use Prim.Native.Nat.{ℕ, suc, _+_, _%_, _≤_, _<_}
 use native.Mathlib.Numerals.{add-one}
 use native.Mathlib.Omega.{arith}
 use lib.Dec.{eqb, leb, ltb}
 use lib.ListN.{length, take}
 use lib.Seq.{slice, length-take-le}
-use borrow.Author.Tests.{eqb-true, eqb-false, leb-false, ltb-false}
+use borrow.Author.Tests.{eqb-true, eqb-false, le-leb, leb-false, le-ltb, ltb-true, ltb-false}
 use Rattle.limits.specs as limits
 use Rattle.history.specs.History.{_∈_, Kind, reads, writes, History, begun}
 use Rattle.history.proofs.Lists.{here, there, inserted, cases-cons, cases-append, only-member}
@@ -20,7 +20,12 @@ use Rattle.switch.specs.Numbers.{numberIn, committedIn}
 use Rattle.switch.specs.DirtySet.{newSwitch}
 use Rattle.switch.proofs.Laws.{sized-new, new-counter, new-committed}
 use Rattle.operations.specs.{isOpen, lastGiven, roomToOpen, opening, closing}
-use Rattle.operations.proofs.Laws.{sized-opening, last-opening, open-before, once-opening, last-closing}
+use Rattle.operations.proofs.Behind.{same-last}
+use Rattle.operations.proofs.Laws.{SizedOpens, sized-opening, last-opening, open-before, once-opening, last-closing}
+use Rattle.contexts.specs.declared.Objects.{Objects}
+use Rattle.contexts.specs.{contextOf, numbersOf, areObjects, areDifferent, isNaming, sizeAt, contextAt, freeRow, holding}
+use Rattle.contexts.proofs.Places.{naming-some, objects-small}
+use Rattle.contexts.proofs.Rows.{Apart, size-is, context-opening, context-closing, context-apart, opens-holding, sized-holding, size-held, numbers-held, free-apart}
 use Rattle.store.specs.declared.Write.{Write}
 use Rattle.store.specs.{members, liveCount}
 use Rattle.chain.specs.{isLive, tailOf, permitting, removed}
@@ -32,23 +37,25 @@ use Rattle.waiting.proofs.Laws as waiting
 use Rattle.protocol.specs.Answers.{noFreshness}
 use Rattle.protocol.specs.declared.Decision.{Decision}
 use Rattle.protocol.specs.declared.Message.{Message}
-use Rattle.protocol.specs.declared.Message.the-variants.{SwitchRead, Completion, Reply}
-use Rattle.protocol.specs.declared.Refusal.the-variants.{Format, ObjectNumber, OperationsUsedUp, OpenFull, WaitingFull, NoPacket, UnstampedRepeat, NotLive, NoLinkedWrite, SwitchNumber, LastReplica, NotOpen, BufferTooShort}
+use Rattle.protocol.specs.declared.Message.the-variants.{SwitchRead, Completion, Reply, ContextRead}
+use Rattle.protocol.specs.declared.Refusal.the-variants.{Format, ObjectNumber, OperationsUsedUp, OpenFull, WaitingFull, NoPacket, UnstampedRepeat, NotLive, NoLinkedWrite, SwitchNumber, LastReplica, NotOpen, BufferTooShort, SameObject}
 use Rattle.protocol.specs.declared.Step.{Step}
-use Rattle.protocol.specs.declared.Step.the-variants.{Start, BeginRead, BeginWrite, Deliver, Lose, Repeat, Advance, Replace, Tell, Remove, GiveUp}
-use Rattle.protocol.specs.Messages.{packetOf, messageOf, isUnstamped}
+use Rattle.protocol.specs.declared.Step.the-variants.{Start, BeginRead, BeginWrite, Deliver, Lose, Repeat, Advance, Replace, Tell, Remove, GiveUp, BeginContext}
+use Rattle.protocol.specs.Messages.{packetOf, contextMessage, messageOf, isUnstamped, isOfContext, inRow}
 use Rattle.protocol.specs.Decisions.{Switched, Stored, Opened, switched, stored, opened, keeping, changingSwitch, changingStore, changingOpens, deciding, noEdit, addOne, dropping, overfull}
-use Rattle.protocol.specs.Steps.{Machine, machine, givenBy, asking, beginOperation, delivered, lost, repeated, sending, advancing, replacing, telling, removing, givingUp, decided, isMalformed, decidedIn, positionOf, outcomeOf}
+use Rattle.protocol.specs.Contexts.{released, leaving, droppingRow}
+use Rattle.protocol.specs.Steps.{Machine, machine, givenBy, asking, beginOperation, beginContext, delivered, lost, copied, repeated, sending, advancing, replacing, telling, removing, givingUp, decided, isMalformed, decidedIn, positionOf, outcomeOf}
 use Rattle.log.proofs.Shows.{Shows, shows-permitting}
 use Rattle.log.proofs.Moves.{shows-advanced, shows-advanced-tail, oldest-tail-below, visible-advanced, visible-advanced-tail, shows-removed, visible-removed}
 use Rattle.linearizability.specs.Run.{begunCount, noted}
-use Rattle.linearizability.proofs.Packets.{Asks, unstampedOne, unstamped-append, asks-none}
-use Rattle.linearizability.proofs.Core.{Core, core-begin, core-add, core-cut, core-reset, core-ask}
+use Rattle.linearizability.proofs.Packets.{Asks, Names, unstampedOne, unstamped-append, asks-none}
+use Rattle.linearizability.proofs.Core.{Core, core-begin, core-add, core-join, core-rows, core-cut, core-reset, core-ask}
 use Rattle.linearizability.proofs.Order.{core-outcome}
-use Rattle.linearizability.proofs.Waits.{messages, front, back, Stands, at-position, edited-nothing, added-packet, added-one, added-two}
+use Rattle.linearizability.proofs.Waits.{messages, front, back, Stands, stands-in, at-position, edited-nothing, added-packet, added-one, added-two}
 use Rattle.linearizability.proofs.Invariant.{Placed, InRange, Books, Good, done, madeVisible, Then, order-stays, good-refused, posted-add, new-number, new-unfinished}
 use Rattle.linearizability.proofs.Removal.{placed-removed}
-use Rattle.linearizability.proofs.Deliveries.{good-of, log-small, placed-same, books-closed, good-dropped, good-message}
+use Rattle.linearizability.proofs.Copies.{family-names, family-only, family-asks, family-placed, family-fine, packet-family}
+use Rattle.linearizability.proofs.Deliveries.{both, good-of, log-small, placed-same, books-closed, books-same, good-dropped, good-freed, good-message}
 
 -- ---- begin
 
@@ -95,11 +102,11 @@ books-begin {m} {h} g k fits room left =
 -- what a begun operation asks is fine
 asked-core : {m : Machine} {h : History} {es : List Entry} (g : Good m h es) (isWrite : Bool) (x v : ℕ)
     → Core (begun (suc (begunCount h)) (cond isWrite (writes x v) (reads (x ∷ []))) ∷ h) es (g .issued) (g .log) (g .n)
-    (messages (m .waiting) ++ asking isWrite (suc (begunCount h)) x v ∷ []) (committedIn (m .switch))
+    (messages (m .waiting) ++ asking isWrite (suc (begunCount h)) x v ∷ []) (committedIn (m .switch)) (m .opens)
 unfolding asking
 asked-core {m} {h} g true x v = core-ask (g .core) (suc (begunCount h)) x v (new-number g)
 asked-core {m} {h} g false x v =
-    core-add (core-begin (g .core) (suc (begunCount h)) (reads (x ∷ [])) (new-number g)) (SwitchRead (suc (begunCount h)) x) (here refl) (λ p q. q)
+    core-add (core-begin (g .core) (suc (begunCount h)) (reads (x ∷ [])) (new-number g)) (SwitchRead (suc (begunCount h)) x) (here refl) (λ p q. q) (λ p q. q)
 
 asked-placed : (s : List ℕ) (isWrite : Bool) (o x v : ℕ) → Placed s (asking isWrite o x v)
 unfolding asking
@@ -139,29 +146,111 @@ module _ {m : Machine} {h : History} {es : List Entry} (g : Good m h es) (wide :
       begins small left room roomy =
           let next = lastGiven (m .opens) + 1 in
           let q : Message = asking isWrite next x v in
-          let core : Core (begun (suc (begunCount h)) (cond isWrite (writes x v) (reads (x ∷ []))) ∷ h) es (g .issued) (g .log) (g .n) (messages (m .waiting) ++ q ∷ []) (committedIn (m .switch)) =
+          let core : Core (begun (suc (begunCount h)) (cond isWrite (writes x v) (reads (x ∷ []))) ∷ h) es (g .issued) (g .log) (g .n) (messages (m .waiting) ++ q ∷ []) (committedIn (m .switch)) (m .opens) =
           rw (next-is g) (asked-core g isWrite x v) in
           rw (notes, order-stays m (machine (m .switch) (m .store) (opening (m .opens) next) (edited (m .waiting) (addOne (packetOf q)))) es refl)
-          (good-of (g .issued) (g .log) (g .n) (messages (m .waiting) ++ q ∷ []) (added-one (m .waiting) wide (g .exact) q roomy) core (g .shown)
+          (good-of (g .issued) (g .log) (g .n) (messages (m .waiting) ++ q ∷ []) (added-one (m .waiting) wide (g .exact) q roomy)
+          (core-rows core (λ p i r n. context-opening (m .opens) next r)) (g .shown)
           (posted-add {s = m .store} (messages (m .waiting)) q (g .posted) (asked-placed (m .store) isWrite next x v))
           (books-begin g (cond isWrite (writes x v) (reads (x ∷ []))) (in-range isWrite x v small) room left)
           (omega (arith, g .counted, unstamped-append (messages (m .waiting)) (q ∷ []), asked-one isWrite next x v, last-opening (m .opens) next (g .books .cells) room))
           (g .switch-sized) (waiting.exact-edited (m .waiting) _ (g .exact)))
 
--- ---- packets are delivered, lost, repeated
+-- ---- a read of a whole context begins
 
--- what holds of both holds of the one that a test chooses
-pub both : {A : Type 0} (P : A → Type 0) (b : Bool) {x y : A} → P x → P y → P (cond b x y)
-both P b p q = by-test P b _ _ (λ e. p) (λ e. q)
+module _ {m : Machine} {h : History} {es : List Entry} (g : Good m h es) (wide : waiting.Roomy (m .waiting)) (x : Objects) (named : isNaming x ≡ true) where
+  abbrev Begins : Opened → Type 0
+  Begins u = Then (BeginContext x) m h es (changingOpens (givenBy m) u)
+
+  -- its number, its row and its objects
+  abbrev number : ℕ
+  number = lastGiven (m .opens) + 1
+
+  abbrev row : ℕ
+  row = freeRow (m .opens)
+
+  abbrev objects : List ℕ
+  objects = numbersOf (contextOf x)
+
+  abbrev cells : List ℕ
+  cells = holding (opening (m .opens) number) row (contextOf x)
+
+  sized : SizedOpens (opening (m .opens) number)
+  sized = sized-opening (m .opens) number (g .books .cells)
+
+  -- a row that is named is another
+  taken : row < 64 → (q : Message) → q ∈ messages (m .waiting) → (r : ℕ) → Names q r → Apart row r
+  taken free q i r n = free-apart (m .opens) r free (g .core .packets .used q r i n)
+
+  context-core : row < 64 → Core (begun (suc (begunCount h)) (reads objects) ∷ h) es (g .issued) (g .log) (g .n)
+      (messages (m .waiting) ++ ContextRead number row ∷ []) (committedIn (m .switch)) cells
+  context-core free =
+      core-join
+      (core-rows (core-begin (g .core) (suc (begunCount h)) (reads objects) (new-number g))
+      (λ q i r n. context-apart (opening (m .opens) number) row (contextOf x) r (taken free q i r n) ∙ context-opening (m .opens) number r))
+      (ContextRead number row)
+      (here (λ j. begun (next-is g j) (reads (numbers-held (opening (m .opens) number) row (contextOf x) sized j)))) (λ p q. q)
+      (λ q i r s n e d. taken free q i r n (ap (λ (k : ℕ). k % limits.contexts) e ∙ sym d))
+      (λ r e z. omega (arith, naming-some x named, subst (λ (k : ℕ). sizeAt cells k ≡ 0) (sym e) z, size-held (opening (m .opens) number) row (contextOf x) sized))
+
+  good-context-begins : areObjects (contextOf x) ≡ true → lastGiven (m .opens) < 65535 → roomToOpen (m .opens) ≡ true → overfull (held (m .waiting)) 0 1 ≡ false → row < 64
+      → Begins (opened (deciding (addOne (packetOf (ContextRead number row)))) cells)
+  good-context-begins small left room roomy free =
+      rw (order-stays m (machine (m .switch) (m .store) cells (edited (m .waiting) (addOne (packetOf (ContextRead number row))))) es refl)
+      (good-of (g .issued) (g .log) (g .n) (messages (m .waiting) ++ ContextRead number row ∷ [])
+      (added-one (m .waiting) wide (g .exact) (ContextRead number row) roomy) (context-core free) (g .shown)
+      (posted-add {s = m .store} (messages (m .waiting)) (ContextRead number row) (g .posted) tt)
+      (books-same (opens-holding (opening (m .opens) number) row (contextOf x)) (sized-holding (opening (m .opens) number) row (contextOf x) sized)
+      (books-begin g (reads objects) (objects-small (contextOf x) small) room left))
+      (omega (arith, g .counted, unstamped-append (messages (m .waiting)) (ContextRead number row ∷ []), last-opening (m .opens) number (g .books .cells) room,
+      same-last (opens-holding (opening (m .opens) number) row (contextOf x))))
+      (g .switch-sized) (waiting.exact-edited (m .waiting) _ (g .exact)))
+
+  good-begin-context : Begins (beginContext (m .opens) (held (m .waiting)) x)
+  unfolding beginContext
+  good-begin-context =
+      by-test Begins (areObjects (contextOf x)) _ _
+      (λ small. both Begins (areDifferent (contextOf x))
+      (by-test Begins (leb 65535 (lastGiven (m .opens))) _ _
+      (λ last. good-refused (BeginContext x) OperationsUsedUp g)
+      (λ last. by-test Begins (roomToOpen (m .opens)) _ _
+      (λ room. by-test Begins (overfull (held (m .waiting)) 0 1) _ _
+      (λ full. good-refused (BeginContext x) WaitingFull g)
+      (λ roomy. by-test Begins (ltb row 64) _ _
+      (λ free. good-context-begins small (leb-false 65535 (lastGiven (m .opens)) last) room roomy (ltb-true row 64 free))
+      (λ none. good-refused (BeginContext x) WaitingFull g)))
+      (λ room. good-refused (BeginContext x) OpenFull g)))
+      (good-refused (BeginContext x) SameObject g))
+      (λ large. good-refused (BeginContext x) ObjectNumber g)
+
+-- ---- packets are delivered, lost, repeated
 
 -- a packet that may be repeated is no unstamped write
 asks-not : (p : Packet) → isUnstamped p ≡ false → (o : ℕ) → Asks (messageOf p) o → ⊥
-unfolding isUnstamped messageOf
+unfolding isUnstamped messageOf contextMessage
 asks-not p e o =
     let P : Message → Type 0 = λ q. Asks q o → ⊥ in
     rw e
     (both P (eqb (p .kind) 2) (λ a. a) (both P (eqb (p .kind) 3) (λ a. a) (both P (eqb (p .kind) 4) (λ a. a)
-    (both P (eqb (p .kind) 5) (λ a. a) (both P (eqb (p .kind) 6) (λ a. a) (both P (eqb (p .kind) 7) (λ a. a) (λ a. a)))))))
+    (both P (eqb (p .kind) 5) (λ a. a) (both P (eqb (p .kind) 6) (λ a. a) (both P (eqb (p .kind) 7) (λ a. a)
+    (both P (eqb (p .kind) 8) (λ a. a) (both P (eqb (p .kind) 9) (λ a. a) (both P (eqb (p .kind) 10) (λ a. a) (both P (eqb (p .kind) 11) (λ a. a) (λ a. a)))))))))))
+
+-- nor one that names a row, unless it is of a context
+names-not : (p : Packet) → isOfContext p ≡ false → (r : ℕ) → Names (messageOf p) r → ⊥
+unfolding isOfContext messageOf contextMessage
+names-not p e r =
+    let P : Message → Type 0 = λ q. Names q r → ⊥ in
+    both P (eqb (p .kind) 1) (λ a. a) (both P (eqb (p .kind) 2) (λ a. a) (both P (eqb (p .kind) 3) (λ a. a) (both P (eqb (p .kind) 4) (λ a. a)
+    (both P (eqb (p .kind) 5) (λ a. a) (both P (eqb (p .kind) 6) (λ a. a) (both P (eqb (p .kind) 7) (λ a. a)
+    (by-test P (eqb (p .kind) 8) _ _ (λ k. absurd (other 8 (eqb-true (p .kind) 8 k) (omega arith) (omega arith)))
+    (λ f. by-test P (eqb (p .kind) 9) _ _ (λ k. absurd (other 9 (eqb-true (p .kind) 9 k) (omega arith) (omega arith)))
+    (λ f. by-test P (eqb (p .kind) 10) _ _ (λ k. absurd (other 10 (eqb-true (p .kind) 10 k) (omega arith) (omega arith)))
+    (λ f. by-test P (eqb (p .kind) 11) _ _ (λ k. absurd (other 11 (eqb-true (p .kind) 11 k) (omega arith) (omega arith))) (λ f a. a)))))))))))
+  where
+    other : (k : ℕ) → p .kind ≡ k → 8 ≤ k → k ≤ 11 → ⊥
+    other k q low high =
+        let t : true ≡ false = sym (rw (le-ltb (p .kind) 8 (omega (arith, q, low))) (le-leb (p .kind) 11 (omega (arith, q, high)))) ∙ e in
+        let z : _≡_ {A = ℕ} 0 1 = cc in omega arith
 
 module _ {m : Machine} {h : History} {es : List Entry} (g : Good m h es) (wide : waiting.Roomy (m .waiting)) (at : ℕ) where
   -- the packet at the position
@@ -172,24 +261,61 @@ module _ {m : Machine} {h : History} {es : List Entry} (g : Good m h es) (wide :
   there-is : leb (held (m .waiting)) at ≡ false → Stands (m .waiting) at (messageOf packet)
   there-is e = at-position (m .waiting) at wide (leb-false (held (m .waiting)) at e)
 
+  -- it leaves the list, and a row that it names is free
+  good-leaves : (choice : ℕ) → Stands (m .waiting) at (messageOf packet) → Then (Deliver at choice) m h es (changingOpens (givenBy m) (leaving (m .opens) packet at))
+  unfolding leaving released droppingRow
+  good-leaves choice s =
+      by-test (λ (l : List ℕ). Then (Deliver at choice) m h es (changingOpens (givenBy m) (opened (dropping at) l))) (isOfContext packet) _ _
+      (λ c.
+      let (q, family, holds) = packet-family packet c in
+      good-freed g choice s (packet .value) (subst (λ (p : Message). Names p (packet .value)) (sym (holds (packet .value))) (family-names family (packet .value))))
+      (λ c. good-dropped g choice s)
+
   good-deliver : (choice : ℕ) → Then (Deliver at choice) m h es (delivered (givenBy m) packet at choice)
   unfolding delivered
   good-deliver choice =
       by-test (Then (Deliver at choice) m h es) (leb (held (m .waiting)) at) _ _
       (λ e. good-refused (Deliver at choice) NoPacket g)
       (λ e. by-test (Then (Deliver at choice) m h es) (leb limits.objects (packet .object)) _ _
-      (λ strange. good-dropped g choice (there-is e))
+      (λ strange. good-leaves choice (there-is e))
       (λ known. good-message g choice (messageOf packet) (there-is e)))
 
-  good-lose : Then (Lose at) m h es (keeping (givenBy m) (lost (held (m .waiting)) at))
-  unfolding lost dropping
+  good-lose : Then (Lose at) m h es (changingOpens (givenBy m) (lost (m .opens) (held (m .waiting)) packet at))
+  unfolding lost leaving released dropping
   good-lose =
-      by-test (λ (d : Decision). Then (Lose at) m h es (keeping (givenBy m) d)) (leb (held (m .waiting)) at) _ _
+      by-test (λ (u : Opened). Then (Lose at) m h es (changingOpens (givenBy m) u)) (leb (held (m .waiting)) at) _ _
       (λ e. good-refused (Lose at) NoPacket g)
-      (λ e. good-dropped g 0 (there-is e))
+      (λ e. good-leaves 0 (there-is e))
 
-  good-repeat : Then (Repeat at) m h es (keeping (givenBy m) (repeated (held (m .waiting)) packet at))
-  unfolding repeated
+  -- a copy of a packet of a context, with a copy of its row
+  good-copied : isOfContext packet ≡ true → freeRow (m .opens) < 64 → Stands (m .waiting) at (messageOf packet) → overfull (held (m .waiting)) 0 1 ≡ false
+      → Then (Repeat at) m h es (changingOpens (givenBy m)
+      (opened (deciding (addOne (inRow packet (freeRow (m .opens))))) (holding (m .opens) (freeRow (m .opens)) (contextAt (m .opens) (packet .value)))))
+  good-copied c free s roomy =
+      let (q, family, holds) = packet-family packet c in
+      let l = m .opens in
+      let r = freeRow l in
+      let was = packet .value in
+      let v = contextAt l was in
+      let z = g .books .cells in
+      let i : q was ∈ messages (m .waiting) = subst (λ (p : Message). p ∈ messages (m .waiting)) (holds was) (stands-in s) in
+      let used : sizeAt l was ≡ 0 → ⊥ = g .core .packets .used (q was) was i (family-names family was) in
+      let apart : (p : Message) → p ∈ messages (m .waiting) → (k : ℕ) → Names p k → Apart r k = λ p j k n. free-apart l k free (g .core .packets .used p k j n) in
+      let core : Core h es (g .issued) (g .log) (g .n) (messages (m .waiting) ++ q r ∷ []) (committedIn (m .switch)) (holding l r v) =
+      core-join (core-rows (g .core) (λ p j k n. context-apart l r v k (apart p j k n))) (q r)
+      (family-fine family h es (g .issued) _ l (holding l r v) was r (numbers-held l r v z) (g .core .packets .fine (q was) i)) (family-asks family r)
+      (λ p j k t n o d. apart p j k n (ap (λ (y : ℕ). y % limits.contexts) (sym (family-only family r t o)) ∙ sym d))
+      (λ k n e. used (sym (size-is l was) ∙ sym (size-held l r v z) ∙ subst (λ (y : ℕ). sizeAt (holding l r v) y ≡ 0) (family-only family r k n) e)) in
+      rw (order-stays m (machine (m .switch) (m .store) (holding l r v) (edited (m .waiting) (addOne (inRow packet r)))) es refl)
+      (good-of (g .issued) (g .log) (g .n) (messages (m .waiting) ++ q r ∷ [])
+      (added-packet (m .waiting) wide (g .exact) (inRow packet r) roomy ∙ ap (λ (p : Message). messages (m .waiting) ++ p ∷ []) (holds r)) core (g .shown)
+      (posted-add {s = m .store} (messages (m .waiting)) (q r) (g .posted) (family-placed family (m .store) was r (g .posted (q was) i)))
+      (books-same (opens-holding l r v) (sized-holding l r v z) (g .books))
+      (omega (arith, g .counted, unstamped-append (messages (m .waiting)) (q r ∷ []), asks-none (q r) (family-asks family r), same-last (opens-holding l r v)))
+      (g .switch-sized) (waiting.exact-edited (m .waiting) _ (g .exact)))
+
+  good-repeat : Then (Repeat at) m h es (changingOpens (givenBy m) (repeated (m .opens) (held (m .waiting)) packet at))
+  unfolding repeated copied
   good-repeat =
       by-test P (leb (held (m .waiting)) at) _ _
       (λ e. good-refused (Repeat at) NoPacket g)
@@ -197,19 +323,23 @@ module _ {m : Machine} {h : History} {es : List Entry} (g : Good m h es) (wide :
       (λ u. good-refused (Repeat at) UnstampedRepeat g)
       (λ u. by-test P (overfull (held (m .waiting)) 0 1) _ _
       (λ full. good-refused (Repeat at) WaitingFull g)
-      (λ roomy. again (there-is e) (asks-not packet u) roomy)))
+      (λ roomy. by-test P (isOfContext packet) _ _
+      (λ c. by-test P (ltb (freeRow (m .opens)) 64) _ _
+      (λ free. good-copied c (ltb-true (freeRow (m .opens)) 64 free) (there-is e) roomy)
+      (λ none. good-refused (Repeat at) WaitingFull g))
+      (λ c. again (there-is e) (asks-not packet u) (names-not packet c) roomy))))
     where
-      P : Decision → Type 0
-      P d = Then (Repeat at) m h es (keeping (givenBy m) d)
+      P : Opened → Type 0
+      P u = Then (Repeat at) m h es (changingOpens (givenBy m) u)
 
-      again : Stands (m .waiting) at (messageOf packet) → ((o : ℕ) → Asks (messageOf packet) o → ⊥) → overfull (held (m .waiting)) 0 1 ≡ false
-          → P (deciding (addOne packet))
-      again s u roomy =
+      again : Stands (m .waiting) at (messageOf packet) → ((o : ℕ) → Asks (messageOf packet) o → ⊥) → ((r : ℕ) → Names (messageOf packet) r → ⊥)
+          → overfull (held (m .waiting)) 0 1 ≡ false → P (opened (deciding (addOne packet)) (m .opens))
+      again s u k roomy =
           let p : Message = messageOf packet in
           let i : p ∈ messages (m .waiting) = subst (λ (l : List Message). p ∈ l) (sym (s .split)) (inserted (front at (m .waiting)) p (back at (m .waiting))) in
           rw (order-stays m (done m (keeping (givenBy m) (deciding (addOne packet)))) es refl)
           (good-of (g .issued) (g .log) (g .n) (messages (m .waiting) ++ p ∷ []) (added-packet (m .waiting) wide (g .exact) packet roomy)
-          (core-add (g .core) p (g .core .packets .fine p i) u) (g .shown)
+          (core-add (g .core) p (g .core .packets .fine p i) u k) (g .shown)
           (posted-add {s = m .store} (messages (m .waiting)) p (g .posted) (g .posted p i)) (g .books)
           (omega (arith, g .counted, unstamped-append (messages (m .waiting)) (p ∷ []), asks-none p u)) (g .switch-sized)
           (waiting.exact-edited (m .waiting) _ (g .exact)))
@@ -329,27 +459,33 @@ good-give-up {m} {h} {es} g o =
     by-test (λ (u : Opened). Then (GiveUp o) m h es (changingOpens (givenBy m) u)) (isOpen (m .opens) o) _ _
     (λ still.
     rw (order-stays m (machine (m .switch) (m .store) (closing (m .opens) o) (edited (m .waiting) noEdit)) es refl)
-    (good-of (g .issued) (g .log) (g .n) (messages (m .waiting)) (ap messages (edited-nothing (m .waiting))) (g .core) (g .shown) (g .posted)
+    (good-of (g .issued) (g .log) (g .n) (messages (m .waiting)) (ap messages (edited-nothing (m .waiting)))
+    (core-rows (g .core) (λ q i r n. context-closing (m .opens) o r)) (g .shown) (g .posted)
     (books-closed o still (g .books)) (omega (arith, g .counted, last-closing (m .opens) o (g .books .cells) still)) (g .switch-sized)
     (waiting.exact-edited (m .waiting) noEdit (g .exact))))
     (λ e. good-refused (GiveUp o) NotOpen g)
 
 -- ---- every step
 
-good-decided : {m : Machine} {h : History} {es : List Entry} (g : Good m h es) → waiting.Roomy (m .waiting) → (x : Step)
+not-false-true : (b : Bool) → not b ≡ false → b ≡ true
+not-false-true true e = refl
+not-false-true false e = absurd (let z : _≡_ {A = ℕ} 0 1 = cc in omega arith)
+
+good-decided : {m : Machine} {h : History} {es : List Entry} (g : Good m h es) → waiting.Roomy (m .waiting) → (x : Step) → isMalformed x ≡ false
     → Then x m h es (decided (givenBy m) (lookAt (m .waiting .packets) (positionOf x)) x)
-unfolding decided positionOf
-good-decided g wide (Start n) = good-refused (Start n) Format g
-good-decided g wide (BeginRead x) = good-begin g wide (BeginRead x) false x 0 refl
-good-decided g wide (BeginWrite x v) = good-begin g wide (BeginWrite x v) true x v refl
-good-decided g wide (Deliver at choice) = good-deliver g wide at choice
-good-decided g wide (Lose at) = good-lose g wide at
-good-decided g wide (Repeat at) = good-repeat g wide at
-good-decided g wide (Advance r) = good-advance g r wide
-good-decided g wide (Replace number) = good-replace g number
-good-decided g wide (Tell r) = good-tell g r
-good-decided g wide (Remove r) = good-remove g r
-good-decided g wide (GiveUp o) = good-give-up g o
+unfolding decided positionOf isMalformed
+good-decided g wide (Start n) some = good-refused (Start n) Format g
+good-decided g wide (BeginRead x) some = good-begin g wide (BeginRead x) false x 0 refl
+good-decided g wide (BeginWrite x v) some = good-begin g wide (BeginWrite x v) true x v refl
+good-decided g wide (Deliver at choice) some = good-deliver g wide at choice
+good-decided g wide (Lose at) some = good-lose g wide at
+good-decided g wide (Repeat at) some = good-repeat g wide at
+good-decided g wide (Advance r) some = good-advance g r wide
+good-decided g wide (Replace number) some = good-replace g number
+good-decided g wide (Tell r) some = good-tell g r
+good-decided g wide (Remove r) some = good-remove g r
+good-decided g wide (GiveUp o) some = good-give-up g o
+good-decided g wide (BeginContext x) some = good-begin-context g wide x (not-false-true (isNaming x) some)
 
 -- where fewer than 64 places are lent for the packets, every step is refused
 pub good-step : {m : Machine} {h : History} {es : List Entry} (g : Good m h es) (x : Step) → Then x m h es (outcomeOf m x)
@@ -359,4 +495,4 @@ good-step {m} {h} {es} g x =
     (λ none. good-refused x Format g)
     (λ some. by-test (Then x m h es) (ltb (length (m .waiting .packets)) limits.waiting) _ _
     (λ short. good-refused x BufferTooShort g)
-    (λ wide. good-decided g (ltb-false (length (m .waiting .packets)) limits.waiting wide) x))
+    (λ wide. good-decided g (ltb-false (length (m .waiting .packets)) limits.waiting wide) x some))

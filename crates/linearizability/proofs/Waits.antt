@@ -16,13 +16,13 @@ use Rattle.waiting.specs.declared.Edit.{Edit}
 use Rattle.waiting.specs.Waiting.{WaitingList, blank, waits, held, lookAt, added, edited}
 use Rattle.waiting.proofs.Laws.{Roomy, Exact, held-most, length-waits, look-is, edited-none, waits-edited-taking, waits-edited-keeping}
 use Rattle.protocol.specs.declared.Message.{Message}
-use Rattle.protocol.specs.declared.Message.the-variants.{UnstampedWrite, SwitchRead, StampedWrite, DirectRead, NormalRead, Completion, Reply, Unknown}
-use Rattle.protocol.specs.Messages.{packetOf, messageOf}
+use Rattle.protocol.specs.declared.Message.the-variants.{UnstampedWrite, SwitchRead, StampedWrite, DirectRead, NormalRead, Completion, Reply, ContextRead, DirectContext, NormalContext, ContextReply, Unknown}
+use Rattle.protocol.specs.Messages.{packetOf, contextMessage, messageOf}
 use Rattle.protocol.specs.Decisions.{noEdit, takeOut, takeOutAdd, takeOutAddTwo, addOne, addTwo, overfull}
 
 -- a packet holds the message that it was made of
 pub message-packet : (m : Message) → messageOf (packetOf m) ≡ m
-unfolding messageOf packetOf
+unfolding messageOf contextMessage packetOf
 message-packet (UnstampedWrite o x v) = refl
 message-packet (SwitchRead o x) = refl
 message-packet (StampedWrite r w) = refl
@@ -30,6 +30,10 @@ message-packet (DirectRead r number t o x) = refl
 message-packet (NormalRead r o x c) = refl
 message-packet (Completion x t) = refl
 message-packet (Reply o v c f) = refl
+message-packet (ContextRead o r) = refl
+message-packet (DirectContext q number t o r) = refl
+message-packet (NormalContext q o r) = refl
+message-packet (ContextReply o r) = refl
 message-packet Unknown = refl
 
 abbrev pub messages : WaitingList → List Message

@@ -3,11 +3,12 @@ use mathlib.Core.List.{List, [], _∷_}
 use Prim.Native.Nat.{ℕ, suc}
 use Rattle.lists.specs.{indexOf, without}
 use Rattle.history.specs.History.{Kind, reads, writes, History, begun, finished}
+use Rattle.contexts.specs.{contextOf, numbersOf}
 use Rattle.waiting.specs.declared.Packet.{Packet}
 use Rattle.protocol.specs.declared.Answer.{Answer}
-use Rattle.protocol.specs.declared.Answer.the-variants.{Done, Finished, Refused}
+use Rattle.protocol.specs.declared.Answer.the-variants.{Done, Finished, FinishedContext, Refused}
 use Rattle.protocol.specs.declared.Step.{Step}
-use Rattle.protocol.specs.declared.Step.the-variants.{Start, BeginRead, BeginWrite, Deliver, Lose, Repeat, Advance, Replace, Tell, Remove, GiveUp}
+use Rattle.protocol.specs.declared.Step.the-variants.{Start, BeginRead, BeginWrite, Deliver, Lose, Repeat, Advance, Replace, Tell, Remove, GiveUp, BeginContext}
 use Rattle.protocol.specs.Steps.{Machine, answerTo, after, started}
 
 -- how many operations have begun
@@ -20,12 +21,14 @@ begunCount (finished o vs ∷ h) = begunCount h
 abbrev pub beginning : Kind → Answer → History → History
 beginning k Done h = begun (suc (begunCount h)) k ∷ h
 beginning k (Finished o v f) h = begun (suc (begunCount h)) k ∷ h
+beginning k (FinishedContext o v) h = begun (suc (begunCount h)) k ∷ h
 beginning k (Refused r) h = h
 
--- 'An operation finishes at the accepted deliver whose answer names it, with its value, as just finished.'
+-- 'An operation finishes at the accepted deliver whose answer names it, with its value, as just finished.' A read of a whole context finishes with its values.
 abbrev pub ending : Answer → History → History
 ending Done h = h
 ending (Finished o v f) h = finished o (v ∷ []) ∷ h
+ending (FinishedContext o v) h = finished o (numbersOf v) ∷ h
 ending (Refused r) h = h
 
 -- the history, one step later
@@ -41,6 +44,7 @@ noted (Replace number) a h = h
 noted (Tell r) a h = h
 noted (Remove r) a h = h
 noted (GiveUp o) a h = h
+noted (BeginContext x) a h = beginning (reads (numbersOf (contextOf x))) a h
 
 -- 'Each step gets the state, the waiting packets and the open operations .. as the step before returned or left them'
 abbrev pub historyFrom : Machine → History → List Step → History
@@ -57,6 +61,7 @@ historyOf n row xs = historyFrom (started n row) [] xs
 abbrev pub openBegun : Answer → History → List ℕ → List ℕ
 openBegun Done h l = suc (begunCount h) ∷ l
 openBegun (Finished o v f) h l = suc (begunCount h) ∷ l
+openBegun (FinishedContext o v) h l = suc (begunCount h) ∷ l
 openBegun (Refused r) h l = l
 
 -- the operation is open no more
@@ -67,12 +72,14 @@ openWithout o l = without l (indexOf l o)
 abbrev pub openEnded : Answer → List ℕ → List ℕ
 openEnded Done l = l
 openEnded (Finished o v f) l = openWithout o l
+openEnded (FinishedContext o v) l = openWithout o l
 openEnded (Refused r) l = l
 
 -- nor is one that is given up, unless the step is refused
 abbrev pub openGivenUp : ℕ → Answer → List ℕ → List ℕ
 openGivenUp o Done l = openWithout o l
 openGivenUp o (Finished p v f) l = openWithout o l
+openGivenUp o (FinishedContext p v) l = openWithout o l
 openGivenUp o (Refused r) l = l
 
 -- the open operations, one step later; h is the history before the step
@@ -88,6 +95,7 @@ openNoted (Replace number) a h l = l
 openNoted (Tell r) a h l = l
 openNoted (Remove r) a h l = l
 openNoted (GiveUp o) a h l = openGivenUp o a l
+openNoted (BeginContext x) a h l = openBegun a h l
 
 abbrev pub openFrom : Machine → History → List ℕ → List Step → List ℕ
 openFrom m h l [] = l

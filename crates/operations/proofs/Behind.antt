@@ -18,6 +18,9 @@ use Rattle.operations.proofs.Laws.{count-most, open-place, OpenOnce}
 pub record SameOpens (l l' : List ℕ) : Type 0 where
   pub cells : (j : ℕ) → j < 66 → getD l' j 0 ≡ getD l j 0
 
+pub same-self : {l : List ℕ} → SameOpens l l
+same-self = record { cells = λ j h. refl }
+
 module _ {l l' : List ℕ} (s : SameOpens l l') where
   pub same-count : openCount l' ≡ openCount l
   unfolding openCount
