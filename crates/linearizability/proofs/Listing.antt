@@ -1,33 +1,37 @@
--- Runs computed by the definitions: document 01's listing, a removed tail and a removed head. So the theorem is not about a machine that drops every packet.
+-- Runs computed by the definitions: document 01's listing, a removed tail, a removed head, and a read of a whole context. So the theorem is not about a machine that drops every packet.
 use mathlib.Core.Path.{_≡_, refl, sym, _∙_, subst}
-use mathlib.Core.List.{List, [], _∷_}
+use mathlib.Core.List.{List, [], _∷_, map}
 use Prim.Native.Nat.{ℕ}
 use lib.ListN.{replicate}
 use Rattle.limits.specs as limits
 use Rattle.history.specs.History.{History, reads, writes, begun, finished, Finished}
 use Rattle.history.proofs.Lists.{here, there}
+use Rattle.history.proofs.Entries.{Entry, Store, after, empty}
 use Rattle.protocol.specs.declared.Step.{Step}
-use Rattle.protocol.specs.declared.Step.the-variants.{BeginRead, BeginWrite, Deliver, Advance, Remove, GiveUp}
-use Rattle.protocol.specs.Messages.{packetOf, messageOf, isUnstamped}
+use Rattle.protocol.specs.declared.Step.the-variants.{BeginRead, BeginWrite, Deliver, Advance, Remove, GiveUp, BeginContext}
+use Rattle.protocol.specs.Messages.{packetOf, contextMessage, messageOf, isUnstamped}
 use Rattle.protocol.specs.Decisions.{refusing, dropping, passing, overfull}
+use Rattle.protocol.specs.Contexts as Rules
 use Rattle.protocol.specs.Delivery.{stamping, unstampedWrite, switchRead, stampedWrite, directRead, normalRead, completion, reply, deliveredMessage}
-use Rattle.protocol.specs.Steps.{asking, beginOperation, delivered, advancing, removing, givingUp, positionOf, decided, isMalformed, decidedIn, answerTo, after, started}
+use Rattle.protocol.specs.Steps.{asking, beginOperation, beginContext, delivered, advancing, removing, givingUp, positionOf, decided, isMalformed, decidedIn, answerTo, after as next, started}
 use Rattle.waiting.specs.declared.Packet.{Packet}
 use Rattle.waiting.specs.Waiting.{blank, heldIn, noneWait, lookAt, takesOut, leftBy, fits, afterTaking, adding, edited}
-use Rattle.lists.specs.{moves, indexOf, listOf}
+use Rattle.lists.specs.{moves, indexOf, listOf, allOf}
+use Rattle.contexts.specs as Contexts
+use Rattle.contexts.specs.declared.Objects.{Objects}
 use Rattle.operations.specs.{openCount, openNumbers, lastGiven, noneOpen, openPlace, isOpen, roomToOpen, opening, closing}
 use Rattle.stamp.specs.Stamps.{stampOf, numberOf, counterOf, isAbove, largerOf}
 use Rattle.switch.specs.Numbers.{numberIn, counterIn, committedIn, directIn, slotObject, slotStamp}
 use Rattle.slots.specs.{firstSlot, secondSlot, thirdSlot, holdsObject, countsAbove, isFree, holdsAbove, isCompleted}
 use Rattle.switch.specs.DirtySet.{freeSlot, slotFor, markAbove, lookedUp, nextStamp, marking, canMark, marked, stampFor, clearedAt, completed, newSwitch}
 use Rattle.chain.specs as Chain
-use Rattle.store.specs as Store
+use Rattle.store.specs as Cells
 use Rattle.replicas.specs.Links
 use Rattle.replicas.specs.Replicas
 use Rattle.linearizability.specs.Run.{historyOf}
 use Rattle.linearizability.proofs.Members.{has}
 use Rattle.linearizability.proofs.Order.{objectsOf, finishOrder}
-use Rattle.linearizability.proofs.OneOrder.{orderOf}
+use Rattle.linearizability.proofs.OneOrder.{orderFrom, orderOf}
 
 -- the lent places
 abbrev row : List Packet
@@ -48,6 +52,22 @@ removing-run r = BeginWrite 5 9 ∷ first ∷ first ∷ Remove r ∷ BeginRead 5
 abbrev pub overtaking-run : List Step
 overtaking-run = BeginWrite 5 9 ∷ BeginRead 5 ∷ Deliver 1 0 ∷ Deliver 1 0 ∷ Deliver 1 0 ∷ first ∷ first ∷ Advance 2 ∷ first ∷ []
 
+-- objects 5 and 6
+abbrev both : Objects
+both = record { count = 2; first = 5; second = 6; third = 0; fourth = 0; fifth = 0; sixth = 0; seventh = 0; eighth = 0 }
+
+-- reads of 5, of 6 and of both are open together. 5 is read, 5 is written, both are read, 6 is written, and 6 is read; then the three reads finish
+abbrev pub context-run : List Step
+context-run =
+    BeginRead 5 ∷ BeginRead 6 ∷ BeginContext both ∷ BeginWrite 5 1 ∷ BeginWrite 6 2 ∷
+    first ∷ Deliver 4 0 ∷ Deliver 2 0 ∷ Deliver 4 0 ∷ Deliver 1 0 ∷ Deliver 5 0 ∷ Deliver 1 0 ∷ Deliver 5 0 ∷ first ∷ Deliver 6 0 ∷
+    first ∷ Deliver 2 0 ∷ Deliver 4 0 ∷ []
+
+-- what the objects xs hold at each point of an order, from before its first operation to behind its last
+abbrev pub points : Store → List Entry → List ℕ → List (List ℕ)
+points s [] xs = map s xs ∷ []
+points s (e ∷ es) xs = map s xs ∷ points (after s (e ∷ [])) es xs
+
 pub record Computed : Type 0 where
   pub listing-history : historyOf 2 row listing ≡ finished 2 (9 ∷ []) ∷ begun 2 (reads (5 ∷ [])) ∷ finished 1 (9 ∷ []) ∷ begun 1 (writes 5 9) ∷ []
   pub listing-order : orderOf 2 row listing ≡ 1 ∷ 2 ∷ []
@@ -57,10 +77,18 @@ pub record Computed : Type 0 where
   -- the write of a removed head's link is lost
   pub head-removed : historyOf 2 row (removing-run 1) ≡ finished 2 (0 ∷ []) ∷ begun 2 (reads (5 ∷ [])) ∷ begun 1 (writes 5 9) ∷ []
   pub overtaken-order : orderOf 2 row overtaking-run ≡ 2 ∷ 1 ∷ []
+  -- the single reads finish with 0 for object 5 and 2 for object 6, the read of both with 1 and 0
+  pub context-history : historyOf 1 row context-run ≡
+      finished 2 (2 ∷ []) ∷ finished 3 (1 ∷ 0 ∷ []) ∷ finished 1 (0 ∷ []) ∷ begun 5 (writes 6 2) ∷ begun 4 (writes 5 1) ∷
+      begun 3 (reads (5 ∷ 6 ∷ [])) ∷ begun 2 (reads (6 ∷ [])) ∷ begun 1 (reads (5 ∷ [])) ∷ []
+  pub context-order : orderOf 1 row context-run ≡ 1 ∷ 4 ∷ 3 ∷ 5 ∷ 2 ∷ []
+  -- no point of the order has the pair 0 and 2, and two have the pair 1 and 0: before and behind operation 3
+  pub context-points : points empty (orderFrom (started 1 row) [] [] context-run) (5 ∷ 6 ∷ []) ≡
+      (0 ∷ 0 ∷ []) ∷ (0 ∷ 0 ∷ []) ∷ (1 ∷ 0 ∷ []) ∷ (1 ∷ 0 ∷ []) ∷ (1 ∷ 2 ∷ []) ∷ (1 ∷ 2 ∷ []) ∷ []
 
 pub computed : Computed
-unfolding packetOf messageOf isUnstamped refusing dropping passing overfull stamping unstampedWrite switchRead stampedWrite directRead normalRead completion reply deliveredMessage asking beginOperation delivered advancing removing givingUp positionOf decided isMalformed decidedIn answerTo after started heldIn noneWait lookAt takesOut leftBy fits afterTaking adding edited moves indexOf listOf openCount openNumbers lastGiven noneOpen openPlace isOpen roomToOpen opening closing stampOf numberOf counterOf isAbove largerOf numberIn counterIn committedIn directIn slotObject slotStamp firstSlot secondSlot thirdSlot holdsObject countsAbove isFree holdsAbove freeSlot slotFor markAbove lookedUp nextStamp marking canMark marked stampFor isCompleted clearedAt completed newSwitch Chain.chainPlace Chain.isLive Chain.memberAt Chain.headOf Chain.tailOf Chain.chosenBy Chain.allOf Chain.permits Chain.allPermit Chain.removed Chain.emptyCells Chain.numbered Chain.emptyStore Links.entries has objectsOf finishOrder Store.entryCell Store.valueCell Store.stampCell Store.storeCells Store.liveCount Store.orderAt Store.members Store.rowOf Store.highestOf Store.permittedBy Store.appliedBy Store.entryAt Store.valueAt Store.stampAt Store.logged Store.tabled Store.raised Replicas.linkedWrites Replicas.accepts Replicas.nextPosition Replicas.applying Replicas.taking Replicas.pendingAt Replicas.pending Replicas.oldest Replicas.answersDirect
-computed = record { listing-history = refl; listing-order = refl; tail-removed = refl; tail-removed-order = refl; head-removed = refl; overtaken-order = refl }
+unfolding packetOf contextMessage messageOf isUnstamped Contexts.placeOf Contexts.sizeOf Contexts.numbersOf Contexts.keptAt Contexts.mapped Contexts.isCount Contexts.isObject Contexts.areObjects Contexts.standsFirst Contexts.areDifferent Contexts.isContext Contexts.emptyAt Contexts.isNaming Contexts.rowCell Contexts.sizeAt Contexts.numberAt Contexts.contextAt Contexts.freeRow Contexts.puts Contexts.holding Contexts.freeing Rules.goesDirectly Rules.contextRead Rules.answeringContext Rules.normalContext Rules.contextReply beginContext refusing dropping passing overfull stamping unstampedWrite switchRead stampedWrite directRead normalRead completion reply deliveredMessage asking beginOperation delivered advancing removing givingUp positionOf decided isMalformed decidedIn answerTo next started heldIn noneWait lookAt takesOut leftBy fits afterTaking adding edited moves indexOf listOf openCount openNumbers lastGiven noneOpen openPlace isOpen roomToOpen opening closing stampOf numberOf counterOf isAbove largerOf numberIn counterIn committedIn directIn slotObject slotStamp firstSlot secondSlot thirdSlot holdsObject countsAbove isFree holdsAbove freeSlot slotFor markAbove lookedUp nextStamp marking canMark marked stampFor isCompleted clearedAt completed newSwitch Chain.chainPlace Chain.isLive Chain.memberAt Chain.headOf Chain.tailOf Chain.chosenBy allOf Chain.permits Chain.allPermit Chain.removed Chain.emptyCells Chain.numbered Chain.emptyStore Links.entries has objectsOf finishOrder Cells.entryCell Cells.valueCell Cells.stampCell Cells.storeCells Cells.liveCount Cells.orderAt Cells.members Cells.rowOf Cells.highestOf Cells.permittedBy Cells.appliedBy Cells.entryAt Cells.valueAt Cells.stampAt Cells.logged Cells.tabled Cells.raised Replicas.linkedWrites Replicas.accepts Replicas.nextPosition Replicas.applying Replicas.taking Replicas.pendingAt Replicas.pending Replicas.oldest Replicas.answersDirect
+computed = record { listing-history = refl; listing-order = refl; tail-removed = refl; tail-removed-order = refl; head-removed = refl; overtaken-order = refl; context-history = refl; context-order = refl; context-points = refl }
 
 -- a machine that drops every packet finishes nothing: the listing's history is not its history
 pub not-dropping : (h : History) → ((o : ℕ) → Finished h o → ⊥) → historyOf 2 row listing ≡ h → ⊥
