@@ -27,11 +27,9 @@ fn main() {
         while model.waiting() > 0 {
             match step(&mut model, 3, 0, 0) {
                 Answer::Finished {
-                    value: answered,
-                    freshness,
-                    ..
+                    values, freshness, ..
                 } => {
-                    assert_eq!(answered == value, freshness != Freshness::Old);
+                    assert_eq!(values[0] == value, freshness != Freshness::Old);
                     writes += usize::from(freshness == Freshness::None);
                     old += usize::from(freshness == Freshness::Old);
                     new += usize::from(freshness == Freshness::New);

@@ -7,10 +7,12 @@ use raw::{Packet, Session, OPENS, PLACES, STORE, SWITCH};
 
 /// The most bytes that a record, a line and an input have, and room for the
 /// output of any input.
-pub const LONGEST_RECORD: usize = 9;
-pub const LONGEST_LINE: usize = 62;
+pub const LONGEST_RECORD: usize = 19;
+pub const LONGEST_LINE: usize = 137;
 pub const LONGEST_INPUT: usize = 65_536;
-pub const OUTPUT_ROOM: usize = 1_048_576;
+pub const OUTPUT_ROOM: usize = 2_244_608;
+/// The most objects that one read names.
+pub const LONGEST_CONTEXT: usize = 8;
 
 /// What a step answers; a refusal is document 01's number.
 #[derive(Clone, Copy, Debug, PartialEq, Eq)]
@@ -18,10 +20,45 @@ pub enum Answer {
     Done,
     Finished {
         operation: u32,
-        value: u32,
+        values: Values,
         freshness: Freshness,
     },
     Refused(u8),
+}
+
+/// The values of a finished operation: one, or for a read of a whole context one
+/// for each object, in the order given.
+#[derive(Clone, Copy, PartialEq, Eq)]
+pub struct Values {
+    count: u32,
+    places: [u32; LONGEST_CONTEXT],
+}
+
+impl Values {
+    /// At most eight values.
+    pub fn of(values: &[u32]) -> Values {
+        let mut places = [0; LONGEST_CONTEXT];
+        places[..values.len()].copy_from_slice(values);
+        Values {
+            count: values.len() as u32,
+            places,
+        }
+    }
+}
+
+impl std::ops::Deref for Values {
+    type Target = [u32];
+
+    #[inline]
+    fn deref(&self) -> &[u32] {
+        &self.places[..self.count as usize]
+    }
+}
+
+impl std::fmt::Debug for Values {
+    fn fmt(&self, f: &mut std::fmt::Formatter) -> std::fmt::Result {
+        (**self).fmt(f)
+    }
 }
 
 /// What a finished read says, if its object had a counting mark when the switch
@@ -117,7 +154,10 @@ impl Model {
             (0, 0) => Answer::Done,
             (0, operation) => Answer::Finished {
                 operation,
-                value: self.0.session.value,
+                values: Values {
+                    count: self.0.session.count,
+                    places: self.0.session.values,
+                },
                 freshness: Freshness::from_number(self.0.session.freshness),
             },
             (refusal, _) => Answer::Refused(refusal),
@@ -147,7 +187,8 @@ impl Model {
                 number,
                 s.refusal,
                 s.operation,
-                s.value,
+                s.count,
+                s.values.as_ptr(),
                 s.freshness,
                 s.waiting,
                 s.marks,
@@ -200,7 +241,20 @@ pub fn write_record(tag: u8, first: u32, second: u32, out: &mut [u8]) -> Result<
     }
 }
 
-/// How many bytes the record of a tag has, 0 for an unknown tag.
+/// Writes the record of a read of a whole context at the start of `out`: how many
+/// bytes it has, or refusal 1 where there are not 2 to 8 objects, or 15.
+#[inline]
+pub fn write_context(objects: &[u16], out: &mut [u8]) -> Result<usize, u8> {
+    let (to, room) = (out.as_mut_ptr(), out.len());
+    let (from, count) = (objects.as_ptr(), objects.len());
+    match unsafe { raw::woldladle_write_context(from, count, to, room) } {
+        0 => Ok(3 + 2 * count),
+        refusal => Err(refusal),
+    }
+}
+
+/// How many bytes the record of a tag has, 0 for an unknown tag and for that of a
+/// read of a whole context, which has no fixed length.
 #[inline]
 pub fn record_length(tag: u8) -> usize {
     usize::from(unsafe { raw::woldladle_record_length(tag) })
@@ -253,7 +307,7 @@ mod tests {
 
     #[test]
     fn structs_have_the_sizes_of_the_header() {
-        assert_eq!(size_of::<Session>(), 32);
+        assert_eq!(size_of::<Session>(), 64);
         assert_eq!(size_of::<Packet>(), 24);
     }
 }

@@ -2,7 +2,7 @@
 
 pub const SWITCH: usize = 100;
 pub const STORE: usize = 16_673;
-pub const OPENS: usize = 66;
+pub const OPENS: usize = 642;
 pub const PLACES: usize = 64;
 
 /// The answer of the last start or step.
@@ -11,7 +11,8 @@ pub const PLACES: usize = 64;
 pub struct Session {
     pub refusal: u8,
     pub operation: u32,
-    pub value: u32,
+    pub count: u32,
+    pub values: [u32; 8],
     pub freshness: u32,
     pub marks: u32,
     pub waiting: usize,
@@ -45,7 +46,8 @@ extern "C" {
         number: u32,
         refusal: u8,
         operation: u32,
-        value: u32,
+        count: u32,
+        values: *const u32,
         freshness: u32,
         waiting: usize,
         marks: u32,
@@ -56,6 +58,12 @@ extern "C" {
         tag: u8,
         first: u32,
         second: u32,
+        out: *mut u8,
+        length: usize,
+    ) -> u8;
+    pub fn woldladle_write_context(
+        objects: *const u16,
+        count: usize,
         out: *mut u8,
         length: usize,
     ) -> u8;

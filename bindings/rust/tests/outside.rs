@@ -154,7 +154,7 @@ fn step(model: &mut Model, tag: u8, first: u32, second: u32) -> Answer {
 fn finished(operation: u32, value: u32, freshness: Freshness) -> Answer {
     Answer::Finished {
         operation,
-        value,
+        values: Values::of(&[value]),
         freshness,
     }
 }

@@ -4,8 +4,10 @@ use mathlib.Core.List.{List}
 use Prim.Native.Nat.{ℕ}
 use lib.Dec.{eqb}
 use lib.ListN.{length}
+use Rattle.contexts.specs.declared.Context.{Context}
+use Rattle.contexts.specs.{context}
 use Rattle.protocol.specs.declared.Answer.{Answer}
-use Rattle.protocol.specs.declared.Answer.the-variants.{Done, Finished, Refused}
+use Rattle.protocol.specs.declared.Answer.the-variants.{Done, Finished, FinishedContext, Refused}
 use Rattle.protocol.specs.declared.Step.{Step}
 use Rattle.protocol.specs.declared.Step.the-variants.{Start}
 use Rattle.protocol.specs.declared.Stepped.{Stepped}
@@ -15,25 +17,33 @@ use Rattle.records.specs.declared.Found.{Found}
 use Rattle.records.specs.Records.{recordAt}
 use Rattle.sessions.specs.declared.Session.{Session}
 
--- an answer in numbers: the refusal, or 0; the operation just finished, its value and its freshness, or 0
+-- an answer in numbers: the refusal, or 0; the operation just finished, its values and its freshness, or 0
 abbrev pub refusalIn : Answer → ℕ
 refusalIn Done = 0
 refusalIn (Finished o v f) = 0
+refusalIn (FinishedContext o v) = 0
 refusalIn (Refused r) = refusalNumber r
 
 abbrev pub operationIn : Answer → ℕ
 operationIn Done = 0
 operationIn (Finished o v f) = o
+operationIn (FinishedContext o v) = o
 operationIn (Refused r) = 0
 
-abbrev pub valueIn : Answer → ℕ
-valueIn Done = 0
-valueIn (Finished o v f) = v
-valueIn (Refused r) = 0
+-- so many values, and the values
+abbrev pub noValues : Context
+noValues = context 0 0 0 0 0 0 0 0 0
+
+abbrev pub valuesIn : Answer → Context
+valuesIn Done = noValues
+valuesIn (Finished o v f) = context 1 v 0 0 0 0 0 0 0
+valuesIn (FinishedContext o v) = v
+valuesIn (Refused r) = noValues
 
 abbrev pub freshnessIn : Answer → ℕ
 freshnessIn Done = noFreshness
 freshnessIn (Finished o v f) = f
+freshnessIn (FinishedContext o v) = noFreshness
 freshnessIn (Refused r) = noFreshness
 
 -- a session after a start with n replicas: a refused one leaves the marks and what waits as they were
@@ -41,7 +51,7 @@ unfoldable pub sessionStarted : ℕ → Session → Session
 sessionStarted n before = record {
   refusal = refusalIn (startAnswer n);
   operation = 0;
-  value = 0;
+  values = noValues;
   freshness = noFreshness;
   marks = cond (startRefused n) (before .marks) 0;
   waiting = cond (startRefused n) (before .waiting) 0;
@@ -60,7 +70,7 @@ unfoldable pub sessionAfter : Stepped → Session
 sessionAfter t = record {
   refusal = refusalIn (t .answer);
   operation = operationIn (t .answer);
-  value = valueIn (t .answer);
+  values = valuesIn (t .answer);
   freshness = freshnessIn (t .answer);
   marks = t .marks;
   waiting = t .count;

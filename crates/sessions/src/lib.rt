@@ -1,7 +1,9 @@
 // A session after a start or a step.
 ghost use mathlib.Core.Path.{_≡_};
+ghost use Rattle.contexts.specs.{context};
 ghost use Rattle.protocol.specs.Steps.{startSwitch, startStore, startOpens};
-ghost use Rattle.sessions.specs.{refusalIn, operationIn, valueIn, freshnessIn, sessionStarted, wholeStep, askedBy, sessionAfter};
+ghost use Rattle.sessions.specs.{refusalIn, operationIn, noValues, valuesIn, freshnessIn, sessionStarted, wholeStep, askedBy, sessionAfter};
+use contexts::Context;
 use limits::Freshness;
 use protocol::Answer;
 use protocol::Step;
@@ -10,13 +12,13 @@ use protocol::answers;
 use protocol::answers::NONE;
 use records::Found;
 
-// The answer of the last start or step: its refusal or 0; the operation that it finished, or 0, and that operation's value; what a finished read says of the pending
-// write that it went round (0 for none, 1 for old, 2 for new); how many marks count then. `waiting` is the count of waiting packets that goes into the next step.
+// The answer of the last start or step: its refusal or 0; the operation that it finished, or 0; how many values that has (0, 1 or 2 to 8), and the values; what a finished
+// read says of the pending write that it went round (0 for none, 1 for old, 2 for new); how many marks count then. `waiting` is the count of waiting packets that goes into the next step.
 #[repr(C)]
 pub struct Session {
     pub refusal: u8,
     pub operation: u32,
-    pub value: u32,
+    pub values: Context,
     pub freshness: u32,
     pub marks: u32,
     pub waiting: usize,
@@ -28,6 +30,7 @@ fn refusal_in(answer: Answer) -> u8
     match answer {
         Answer::Done => 0,
         Answer::Finished(o, v, f) => 0,
+        Answer::FinishedContext(o, v) => 0,
         Answer::Refused(r) => answers::refusal_number(r),
     }
 }
@@ -38,17 +41,51 @@ fn operation_in(answer: Answer) -> u32
     match answer {
         Answer::Done => 0,
         Answer::Finished(o, v, f) => o,
+        Answer::FinishedContext(o, v) => o,
         Answer::Refused(r) => 0,
     }
 }
 
-fn value_in(answer: Answer) -> u32
-    ensures { λ r. ⌜ r ≡ valueIn answer ⌝ }
+fn no_values() -> Context
+    ensures { λ r. ⌜ r ≡ noValues ⌝ }
+{
+    Context {
+        count: 0,
+        first: 0,
+        second: 0,
+        third: 0,
+        fourth: 0,
+        fifth: 0,
+        sixth: 0,
+        seventh: 0,
+        eighth: 0,
+    }
+}
+
+fn one_value(v: u32) -> Context
+    ensures { λ r. ⌜ r ≡ context 1 v 0 0 0 0 0 0 0 ⌝ }
+{
+    Context {
+        count: 1,
+        first: v,
+        second: 0,
+        third: 0,
+        fourth: 0,
+        fifth: 0,
+        sixth: 0,
+        seventh: 0,
+        eighth: 0,
+    }
+}
+
+fn values_in(answer: Answer) -> Context
+    ensures { λ r. ⌜ r ≡ valuesIn answer ⌝ }
 {
     match answer {
-        Answer::Done => 0,
-        Answer::Finished(o, v, f) => v,
-        Answer::Refused(r) => 0,
+        Answer::Done => no_values(),
+        Answer::Finished(o, v, f) => one_value(v),
+        Answer::FinishedContext(o, v) => v,
+        Answer::Refused(r) => no_values(),
     }
 }
 
@@ -58,6 +95,7 @@ fn freshness_in(answer: Answer) -> Freshness
     match answer {
         Answer::Done => NONE,
         Answer::Finished(o, v, f) => f,
+        Answer::FinishedContext(o, v) => NONE,
         Answer::Refused(r) => NONE,
     }
 }
@@ -81,7 +119,7 @@ pub fn begin(
         return Session {
             refusal,
             operation: 0,
-            value: 0,
+            values: no_values(),
             freshness: NONE,
             marks: before.marks,
             waiting: before.waiting,
@@ -90,7 +128,7 @@ pub fn begin(
     Session {
         refusal,
         operation: 0,
-        value: 0,
+        values: no_values(),
         freshness: NONE,
         marks: 0,
         waiting: 0,
@@ -120,12 +158,12 @@ pub fn noted(done: Stepped) -> Session
     let answer = done.answer;
     let refusal = refusal_in(answer);
     let operation = operation_in(answer);
-    let value = value_in(answer);
+    let values = values_in(answer);
     let freshness = freshness_in(answer);
     Session {
         refusal,
         operation,
-        value,
+        values,
         freshness,
         marks: done.marks,
         waiting: done.count,

@@ -195,6 +195,7 @@ fn replicas_of(x: Step) -> u8
         Step::Tell(r) => 0,
         Step::Remove(r) => 0,
         Step::GiveUp(o) => 0,
+        Step::BeginContext(x) => 0,
     }
 }
 

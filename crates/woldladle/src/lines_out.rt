@@ -2,16 +2,37 @@
 ghost use mathlib.Core.Path.{_≡_};
 ghost use lib.ListN.{length};
 ghost use Rattle.lines.specs.Text.{putIn};
-ghost use Rattle.woldladle.specs.Calls.{answerFrom, lineFor, putBytes};
+ghost use Rattle.woldladle.specs.Calls.{contextFrom, answerFrom, lineFor, putBytes};
+use contexts::Context;
+use limits::CONTEXT_LEAST;
 use protocol::Answer;
 
-fn answer_from(operation: u32, value: u32, freshness: u32) -> Answer
-    ensures { λ r. ⌜ r ≡ answerFrom operation value freshness ⌝ }
+fn context_from(count: u32, values: &[u32; 8]) -> Context
+    ensures { λ r. ⌜ r ≡ contextFrom count (now (values .entry)) ⌝ }
+{
+    Context {
+        count,
+        first: values[0],
+        second: values[1],
+        third: values[2],
+        fourth: values[3],
+        fifth: values[4],
+        sixth: values[5],
+        seventh: values[6],
+        eighth: values[7],
+    }
+}
+
+fn answer_from(operation: u32, count: u32, values: &[u32; 8], freshness: u32) -> Answer
+    ensures { λ r. ⌜ r ≡ answerFrom operation count (now (values .entry)) freshness ⌝ }
 {
     if operation == 0 {
         return Answer::Done;
     }
-    Answer::Finished(operation, value, freshness)
+    if count < CONTEXT_LEAST {
+        return Answer::Finished(operation, values[0], freshness);
+    }
+    Answer::FinishedContext(operation, context_from(count, values))
 }
 
 // The line at the start of the buffer, which is unchanged where it is too short. How many bytes the line has.
@@ -19,19 +40,20 @@ fn put_line(
     number: u32,
     refusal: u8,
     operation: u32,
-    value: u32,
+    count: u32,
+    values: &[u32; 8],
     freshness: u32,
     waiting: usize,
     marks: u32,
     out: &mut [u8],
 ) -> usize
-    ensures { λ r. ⌜ (r ≡ length (lineFor number refusal operation value freshness waiting marks))
-        × (now (out .exit) ≡ putIn (now (out .entry)) 0 (lineFor number refusal operation value freshness waiting marks)) ⌝ }
+    ensures { λ r. ⌜ (r ≡ length (lineFor number refusal operation count (now (values .entry)) freshness waiting marks))
+        × (now (out .exit) ≡ putIn (now (out .entry)) 0 (lineFor number refusal operation count (now (values .entry)) freshness waiting marks)) ⌝ }
 {
     if refusal != 0 {
         return lines::put_refusal(&mut *out, 0, number, refusal);
     }
-    let answer = answer_from(operation, value, freshness);
+    let answer = answer_from(operation, count, values, freshness);
     let held = waiting::held(waiting) as u32;
     lines::put_answer(&mut *out, 0, number, answer, held, marks)
 }
@@ -43,21 +65,23 @@ pub extern "C" fn woldladle_line(
     number: u32,
     refusal: u8,
     operation: u32,
-    value: u32,
+    count: u32,
+    values: &[u32; 8],
     freshness: u32,
     waiting: usize,
     marks: u32,
     out: &mut [u8],
 ) -> usize
-    ensures { λ r. ⌜ (r ≡ putBytes (now (out .entry)) (lineFor number refusal operation value freshness waiting marks))
-        × (now (out .exit) ≡ putIn (now (out .entry)) 0 (lineFor number refusal operation value freshness waiting marks)) ⌝ }
+    ensures { λ r. ⌜ (r ≡ putBytes (now (out .entry)) (lineFor number refusal operation count (now (values .entry)) freshness waiting marks))
+        × (now (out .exit) ≡ putIn (now (out .entry)) 0 (lineFor number refusal operation count (now (values .entry)) freshness waiting marks)) ⌝ }
 {
     let room = out.len();
     let n = put_line(
         number,
         refusal,
         operation,
-        value,
+        count,
+        values,
         freshness,
         waiting,
         marks,

@@ -1,0 +1,19 @@
+use borrow.Author.Needs.{needs}
+use Rattle.sessions.proofs.operation_in.Statement.{statement}
+use Rattle.sessions.proofs.operation_in.Tie as tie
+
+returns-3 : tie.Need-returns-3
+returns-3 c = rw (c .before .answer2 .given .1)
+
+pub operation-in-spec : {M : Type 1} → statement M
+operation-in-spec =
+    tie.close
+    (tie.spec
+    (λ c. search needs)
+    (λ c. search needs)
+    (λ c. search needs)
+    (λ c. search needs)
+    (λ c. search needs)
+    (λ c. search needs)
+    returns-3
+    (λ c. search needs))

@@ -1,0 +1,20 @@
+use borrow.Author.Needs.{needs}
+use Rattle.sessions.proofs.refusal_in.Statement.{statement}
+use Rattle.sessions.proofs.refusal_in.Tie as tie
+
+returns-3 : tie.Need-returns-3
+returns-3 c = rw (c .before .answer2 .given .1)
+
+pub refusal-in-spec : {M : Type 1} → statement M
+refusal-in-spec =
+    tie.close
+    (tie.spec
+    (λ c. search needs)
+    (λ c. search needs)
+    (λ c. search needs)
+    (λ c. search needs)
+    (λ c κs. search needs)
+    (λ c. search needs)
+    (λ c. search needs)
+    returns-3
+    (λ c. search needs))
