@@ -114,7 +114,7 @@ numbers-mapped f v =
 
 -- ---- the objects of a step
 
-count-some : (n : ℕ) → isCount n ≡ true → 2 ≤ n
+pub count-some : (n : ℕ) → isCount n ≡ true → 2 ≤ n
 unfolding isCount
 count-some n e = go (leb 2 n) refl e
   where

@@ -1,23 +1,25 @@
--- Laws of every line that is printed: it ends in the byte 10 and has no other, and it has at most 62 bytes.
+-- Laws of every line that is printed: it ends in the byte 10 and has no other, and it has at most 137 bytes.
 use mathlib.Core.Path.{_≡_, refl, _∙_}
 use mathlib.Core.Logic.{_≢_}
 use mathlib.Core.Bool.{Bool, true, false, cond}
 use mathlib.Core.List.{List, [], _∷_, _++_, append-assoc}
-use Prim.Native.Nat.{ℕ, zero, suc, _+_, _/_, _%_, _≤_}
+use Prim.Native.Nat.{ℕ, zero, suc, _+_, _/_, _%_, _≤_, _<_}
 use native.Mathlib.Omega.{arith}
-use lib.Dec.{eqb}
+use lib.Dec.{ltb, eqb}
 use lib.ListN.{length, length-append}
-use borrow.Author.Tests.{eq-eqb, ne-eqb}
+use borrow.Author.Tests.{eq-eqb, ne-eqb, lt-ltb, le-ltb}
+use Rattle.contexts.specs.{context}
+use Rattle.contexts.specs.declared.Context.{Context}
 use Rattle.protocol.specs.declared.Answer.{Answer}
-use Rattle.protocol.specs.declared.Answer.the-variants.{Done, Finished, Refused}
+use Rattle.protocol.specs.declared.Answer.the-variants.{Done, Finished, FinishedContext, Refused}
 use Rattle.protocol.specs.declared.Refusal.the-variants.{NotOpen}
 use Rattle.protocol.specs.Answers.{refusalNumber, noFreshness, oldRead, newRead}
-use Rattle.lines.specs.Lines.{digits, places, decimal, okStart, freshnessEnd, finishEnd, noLine, lineOf}
+use Rattle.lines.specs.Lines.{digits, places, decimal, okStart, freshnessEnd, finishEnd, laterValue, joined, contextEnd, noLine, lineOf}
 use Rattle.lines.proofs.Numbers.{decimal-places, decimal-length}
 
 -- no line has more bytes
 abbrev pub longest : ℕ
-longest = 62
+longest = 137
 
 -- there is a byte 10, and the first one is the last byte
 abbrev pub isLine : List ℕ → Bool
@@ -46,6 +48,23 @@ pub no-word : (f : ℕ) → f ≢ oldRead → f ≢ newRead → freshnessEnd f �
 unfolding freshnessEnd
 no-word f p q = rw (ne-eqb f oldRead p, ne-eqb f newRead q)
 
+-- what holds of a comma with a value, and of nothing, holds of a later value
+by-later : (n i v : ℕ) (P : List ℕ → Type 0) → P (44 ∷ decimal v) → P [] → P (laterValue n i v)
+unfolding laterValue
+by-later n i v P there none = go (ltb i n)
+  where
+    go : (a : Bool) → P (cond a (44 ∷ decimal v) [])
+    go true = there
+    go false = none
+
+pub later-there : (n i v : ℕ) → i < n → laterValue n i v ≡ 44 ∷ decimal v
+unfolding laterValue
+later-there n i v h = rw (lt-ltb i n h)
+
+pub later-none : (n i v : ℕ) → n ≤ i → laterValue n i v ≡ []
+unfolding laterValue
+later-none n i v h = rw (le-ltb i n h)
+
 digits-line : (k n : ℕ) (l : List ℕ) → isLine (digits k n ++ l) ≡ isLine l
 unfolding digits
 digits-line zero n l = refl
@@ -59,6 +78,13 @@ number-line n l = digits-line (places n) n l
 freshness-line : (f : ℕ) → isLine (freshnessEnd f) ≡ true
 freshness-line f = by-word f (λ l. isLine l ≡ true) refl refl refl
 
+later-line : (n i v : ℕ) (l : List ℕ) → isLine (laterValue n i v ++ l) ≡ isLine l
+later-line n i v l = by-later n i v (λ w. isLine (w ++ l) ≡ isLine l) (number-line v l) refl
+
+joined-line : (v : Context) (l : List ℕ) → isLine (joined v ++ l) ≡ isLine l
+unfolding joined
+joined-line v l = simp (append-assoc, number-line, later-line)
+
 pub refusal-line : (k refusal : ℕ) → isLine (noLine k refusal) ≡ true
 unfolding noLine
 refusal-line k r = simp (append-assoc, number-line)
@@ -67,6 +93,7 @@ pub answer-line : (k : ℕ) (a : Answer) (waiting marks : ℕ) → isLine (lineO
 unfolding lineOf
 answer-line k Done w m = simp (append-assoc, number-line, freshness-line)
 answer-line k (Finished o v f) w m = simp (append-assoc, number-line, freshness-line)
+answer-line k (FinishedContext o v) w m = simp (append-assoc, number-line, joined-line, freshness-line)
 answer-line k (Refused r) w m = refusal-line k (refusalNumber r)
 
 -- how long each part is, by its numbers
@@ -76,24 +103,37 @@ ok-parts k w m = simp length-append (omega arith)
 pub finish-parts : (o v f : ℕ) → length (finishEnd o v f) ≡ length (decimal o) + 1 + length (decimal v) + 1 + length (freshnessEnd f)
 finish-parts o v f = simp length-append (omega arith)
 
+pub joined-parts : (v : Context) → length (joined v) ≡
+    length (decimal (v .first)) + length (laterValue (v .count) 1 (v .second)) + length (laterValue (v .count) 2 (v .third)) +
+    length (laterValue (v .count) 3 (v .fourth)) + length (laterValue (v .count) 4 (v .fifth)) + length (laterValue (v .count) 5 (v .sixth)) +
+    length (laterValue (v .count) 6 (v .seventh)) + length (laterValue (v .count) 7 (v .eighth))
+unfolding joined
+joined-parts v = simp length-append
+
+pub context-parts : (o : ℕ) (v : Context) → length (contextEnd o v) ≡ length (decimal o) + 1 + length (joined v) + 1 + length (freshnessEnd noFreshness)
+context-parts o v = simp length-append (omega arith)
+
 pub no-parts : (k r : ℕ) → length (noLine k r) ≡ length (decimal k) + 4 + length (decimal r) + 1
 unfolding noLine
 no-parts k r = simp length-append (omega arith)
 
 -- and by its digits
+pub none-length : length (freshnessEnd noFreshness) ≡ 2
+unfolding freshnessEnd
+none-length = refl
+
 pub ok-length : (k w m : ℕ) → length (okStart k w m) ≡ places k + places w + places m + 6
 ok-length k w m = simp length-append (omega (arith, decimal-places k, decimal-places w, decimal-places m))
 
 pub finish-length : (o v f : ℕ) → length (finishEnd o v f) ≡ places o + places v + 2 + length (freshnessEnd f)
 finish-length o v f = simp length-append (omega (arith, decimal-places o, decimal-places v))
 
+pub context-length : (o : ℕ) (v : Context) → length (contextEnd o v) ≡ places o + length (joined v) + 4
+context-length o v = omega (arith, context-parts o v, decimal-places o, none-length)
+
 pub no-length : (k r : ℕ) → length (noLine k r) ≡ places k + places r + 5
 unfolding noLine
 no-length k r = simp length-append (omega (arith, decimal-places k, decimal-places r))
-
-pub none-length : length (freshnessEnd noFreshness) ≡ 2
-unfolding freshnessEnd
-none-length = refl
 
 pub done-length : (k w m : ℕ) → length (lineOf k Done w m) ≡ length (okStart k w m) + 6
 unfolding lineOf freshnessEnd
@@ -103,8 +143,31 @@ pub finished-length : (k o v f w m : ℕ) → length (lineOf k (Finished o v f) 
 unfolding lineOf
 finished-length k o v f w m = length-append (okStart k w m) (finishEnd o v f)
 
+pub finished-context-length : (k o : ℕ) (v : Context) (w m : ℕ) →
+    length (lineOf k (FinishedContext o v) w m) ≡ length (okStart k w m) + length (contextEnd o v)
+unfolding lineOf
+finished-context-length k o v w m = length-append (okStart k w m) (contextEnd o v)
+
 pub freshness-length : (f : ℕ) → length (freshnessEnd f) ≤ 4
 freshness-length f = by-word f (λ l. length l ≤ 4) (omega arith) (omega arith) (omega arith)
+
+later-length : (n i v : ℕ) → length (laterValue n i v) ≤ 11
+later-length n i v = by-later n i v (λ l. length l ≤ 11) (omega (arith, decimal-length v)) (omega arith)
+
+joined-length : (v : Context) → length (joined v) ≤ 87
+joined-length v =
+    omega (
+      arith,
+      joined-parts v,
+      decimal-length (v .first),
+      later-length (v .count) 1 (v .second),
+      later-length (v .count) 2 (v .third),
+      later-length (v .count) 3 (v .fourth),
+      later-length (v .count) 4 (v .fifth),
+      later-length (v .count) 5 (v .sixth),
+      later-length (v .count) 6 (v .seventh),
+      later-length (v .count) 7 (v .eighth),
+    )
 
 pub refusal-length : (k refusal : ℕ) → length (noLine k refusal) ≤ longest
 unfolding noLine
@@ -116,6 +179,19 @@ answer-length k Done w m =
     simp length-append (omega (arith, decimal-length k, decimal-length w, decimal-length m, freshness-length noFreshness))
 answer-length k (Finished o v f) w m =
     simp length-append (omega (arith, decimal-length k, decimal-length w, decimal-length m, decimal-length o, decimal-length v, freshness-length f))
+answer-length k (FinishedContext o v) w m =
+    omega (
+      arith,
+      finished-context-length k o v w m,
+      ok-parts k w m,
+      context-length o v,
+      decimal-places o,
+      decimal-length k,
+      decimal-length w,
+      decimal-length m,
+      decimal-length o,
+      joined-length v,
+    )
 answer-length k (Refused r) w m = refusal-length k (refusalNumber r)
 
 -- lines 1, 11 and 12 of document 01's listing, with Req 01's field; and the end of the line of a read that carried a stamp
@@ -138,3 +214,9 @@ old-end = refl
 pub new-end : finishEnd 2 9 newRead ≡ 50 ∷ 32 ∷ 57 ∷ 32 ∷ 110 ∷ 101 ∷ 119 ∷ 10 ∷ []
 unfolding freshnessEnd decimal places digits
 new-end = refl
+
+-- Req 02: the line of a read of three objects
+pub context-line : lineOf 12 (FinishedContext 2 (context 3 9 0 7 0 0 0 0 0)) 1 0 ≡
+    49 ∷ 50 ∷ 32 ∷ 111 ∷ 107 ∷ 32 ∷ 49 ∷ 32 ∷ 48 ∷ 32 ∷ 50 ∷ 32 ∷ 57 ∷ 44 ∷ 48 ∷ 44 ∷ 55 ∷ 32 ∷ 45 ∷ 10 ∷ []
+unfolding lineOf joined laterValue freshnessEnd decimal places digits
+context-line = refl

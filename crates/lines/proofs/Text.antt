@@ -87,6 +87,15 @@ puts-then {b} {b'} {b″} {at} {p} {r} {w} {v} f g = record {
   long = g .long ∙ f .long;
 }
 
+-- nothing is put
+pub puts-none : (b : List ℕ) (at : ℕ) → at ≤ length b → Puts b at [] at b
+puts-none b at h = record {
+  room = omega arith;
+  after = omega arith;
+  there = sym ((λ j. append-nil (take at b) j ++ drop (add-zero at j) b) ∙ take-append-drop at b);
+  long = refl;
+}
+
 -- ---- into a buffer, if it has room
 
 -- what the test of the room says of bytes t that are n, or at most n
@@ -140,4 +149,4 @@ module _ (b : List ℕ) (at : ℕ) (t : List ℕ) where
 -- no bytes change nothing
 pub put-nothing : (b : List ℕ) (at : ℕ) → putIn b at [] ≡ b
 put-nothing b at =
-    either b at [] (λ l. l ≡ b) refl (λ h. (λ j. append-nil (take at b) j ++ drop (add-zero at j) b) ∙ take-append-drop at b)
+    either b at [] (λ l. l ≡ b) refl (λ h. sym (puts-none b at (omega arith) .there))

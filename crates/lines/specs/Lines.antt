@@ -1,10 +1,11 @@
--- Document 01, 'What the run program prints', with document 02's Req 01: the bytes of one line.
+-- Document 01, 'What the run program prints', with document 02's Req 01 and Req 02: the bytes of one line.
 use mathlib.Core.Bool.{cond}
 use mathlib.Core.List.{List, [], _∷_, _++_}
 use Prim.Native.Nat.{ℕ, zero, suc, _+_, _/_, _%_}
 use lib.Dec.{ltb, eqb}
+use Rattle.contexts.specs.declared.Context.{Context}
 use Rattle.protocol.specs.declared.Answer.{Answer}
-use Rattle.protocol.specs.declared.Answer.the-variants.{Done, Finished, Refused}
+use Rattle.protocol.specs.declared.Answer.the-variants.{Done, Finished, FinishedContext, Refused}
 use Rattle.protocol.specs.Answers.{refusalNumber, noFreshness, oldRead, newRead}
 
 -- the last k decimal digits of n, the most significant first
@@ -37,6 +38,19 @@ freshnessEnd f = cond (eqb f oldRead) (111 ∷ 108 ∷ 100 ∷ 10 ∷ []) (cond 
 abbrev pub finishEnd : ℕ → ℕ → ℕ → List ℕ
 finishEnd o v f = decimal o ++ (32 ∷ []) ++ decimal v ++ (32 ∷ []) ++ freshnessEnd f
 
+-- Req 02: 'The values print joined by commas, in the order given': value i of n, counted from 0, stands behind a comma
+unfoldable pub laterValue : ℕ → ℕ → ℕ → List ℕ
+laterValue n i v = cond (ltb i n) (44 ∷ decimal v) []
+
+unfoldable pub joined : Context → List ℕ
+joined v =
+    decimal (v .first) ++ laterValue (v .count) 1 (v .second) ++ laterValue (v .count) 2 (v .third) ++ laterValue (v .count) 3 (v .fourth) ++
+    laterValue (v .count) 4 (v .fifth) ++ laterValue (v .count) 5 (v .sixth) ++ laterValue (v .count) 6 (v .seventh) ++ laterValue (v .count) 7 (v .eighth)
+
+-- the operation just finished, its values, and 'the field of Req 01 is `-`'
+abbrev pub contextEnd : ℕ → Context → List ℕ
+contextEnd o v = decimal o ++ (32 ∷ []) ++ joined v ++ (32 ∷ []) ++ freshnessEnd noFreshness
+
 -- no operation and no value
 abbrev pub noFinish : List ℕ
 noFinish = 45 ∷ 32 ∷ 45 ∷ 32 ∷ []
@@ -49,4 +63,5 @@ noLine k refusal = decimal k ++ (32 ∷ 110 ∷ 111 ∷ 32 ∷ []) ++ decimal re
 unfoldable pub lineOf : ℕ → Answer → ℕ → ℕ → List ℕ
 lineOf k Done waiting marks = okStart k waiting marks ++ noFinish ++ freshnessEnd noFreshness
 lineOf k (Finished o v f) waiting marks = okStart k waiting marks ++ finishEnd o v f
+lineOf k (FinishedContext o v) waiting marks = okStart k waiting marks ++ contextEnd o v
 lineOf k (Refused r) waiting marks = noLine k (refusalNumber r)

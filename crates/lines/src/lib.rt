@@ -1,12 +1,13 @@
-// Document 01, 'What the run program prints': the bytes of one line, put into a lent buffer.
+// Document 01, 'What the run program prints', with document 02's Req 01 and Req 02: the bytes of one line, put into a lent buffer.
 ghost use mathlib.Core.Path.{_≡_};
 ghost use mathlib.Core.List.{[], _∷_};
 ghost use Prim.Native.Nat.{_+_, _≤_};
 ghost use lib.ListN.{length};
 ghost use lib.Dec.{leb};
-ghost use Rattle.protocol.specs.declared.Answer.the-variants.{Done, Finished};
-ghost use Rattle.lines.specs.Lines.{places, decimal, okStart, freshnessEnd, finishEnd, noLine, lineOf};
+ghost use Rattle.protocol.specs.declared.Answer.the-variants.{Done, Finished, FinishedContext};
+ghost use Rattle.lines.specs.Lines.{places, decimal, okStart, freshnessEnd, finishEnd, laterValue, joined, contextEnd, noLine, lineOf};
 ghost use Rattle.lines.specs.Text.{putIn, Puts};
+use contexts::Context;
 use limits::Freshness;
 use protocol::Answer;
 use protocol::answers;
@@ -15,7 +16,7 @@ use protocol::answers::NONE;
 use protocol::answers::OLD;
 
 // No line has more bytes.
-pub const LONGEST: usize = 62;
+pub const LONGEST: usize = 137;
 
 // ---- parts of a line, at a place that has room for them; each function gives the place after what it puts
 
@@ -158,6 +159,45 @@ fn put_finish(out: &mut [u8], at: usize, operation: u32, value: u32, freshness: 
     put_freshness(&mut *out, at, freshness)
 }
 
+// A comma and value i of n, counted from 0; nothing behind the last value.
+fn put_later(out: &mut [u8], at: usize, n: u32, i: u32, value: u32) -> usize
+    requires { ⌜ at + length (laterValue n i value) ≤ length (now out) ⌝ }
+    ensures { λ r. ⌜ Puts (now (out .entry)) at (laterValue n i value) r (now (out .exit)) ⌝ }
+{
+    if n <= i {
+        return at;
+    }
+    let at = put_byte(&mut *out, at, 44);
+    put_number(&mut *out, at, value)
+}
+
+// The values of a read of a whole context.
+fn put_joined(out: &mut [u8], at: usize, v: Context) -> usize
+    requires { ⌜ at + length (joined v) ≤ length (now out) ⌝ }
+    ensures { λ r. ⌜ Puts (now (out .entry)) at (joined v) r (now (out .exit)) ⌝ }
+{
+    let at = put_number(&mut *out, at, v.first);
+    let at = put_later(&mut *out, at, v.count, 1, v.second);
+    let at = put_later(&mut *out, at, v.count, 2, v.third);
+    let at = put_later(&mut *out, at, v.count, 3, v.fourth);
+    let at = put_later(&mut *out, at, v.count, 4, v.fifth);
+    let at = put_later(&mut *out, at, v.count, 5, v.sixth);
+    let at = put_later(&mut *out, at, v.count, 6, v.seventh);
+    put_later(&mut *out, at, v.count, 7, v.eighth)
+}
+
+// The read of a whole context just finished, its values, and the line's end.
+fn put_context(out: &mut [u8], at: usize, read: u32, v: Context) -> usize
+    requires { ⌜ at + length (contextEnd read v) ≤ length (now out) ⌝ }
+    ensures { λ r. ⌜ Puts (now (out .entry)) at (contextEnd read v) r (now (out .exit)) ⌝ }
+{
+    let at = put_number(&mut *out, at, read);
+    let at = put_byte(&mut *out, at, 32);
+    let at = put_joined(&mut *out, at, v);
+    let at = put_byte(&mut *out, at, 32);
+    put_freshness(&mut *out, at, NONE)
+}
+
 // ---- whole lines
 
 fn put_done(out: &mut [u8], at: usize, number: u32, waiting: u32, marks: u32) -> usize
@@ -186,6 +226,22 @@ fn put_finished(
     put_finish(&mut *out, at, operation, value, freshness)
 }
 
+fn put_finished_context(
+    out: &mut [u8],
+    at: usize,
+    number: u32,
+    read: u32,
+    v: Context,
+    waiting: u32,
+    marks: u32,
+) -> usize
+    requires { ⌜ at + length (lineOf number (FinishedContext read v) waiting marks) ≤ length (now out) ⌝ }
+    ensures { λ r. ⌜ Puts (now (out .entry)) at (lineOf number (FinishedContext read v) waiting marks) r (now (out .exit)) ⌝ }
+{
+    let at = put_ok(&mut *out, at, number, waiting, marks);
+    put_context(&mut *out, at, read, v)
+}
+
 // The line of a record, from its answer and from what the machine then holds.
 fn put_line(
     out: &mut [u8],
@@ -210,6 +266,9 @@ fn put_line(
             waiting,
             marks,
         ),
+        Answer::FinishedContext(read, v) => {
+            put_finished_context(&mut *out, at, number, read, v, waiting, marks)
+        }
         Answer::Refused(refusal) => put_no(&mut *out, at, number, answers::refusal_number(refusal)),
     }
 }
@@ -241,6 +300,34 @@ fn finish_length(operation: u32, value: u32, freshness: Freshness) -> usize
     digits + 4
 }
 
+fn later_length(n: u32, i: u32, value: u32) -> usize
+    ensures { λ r. ⌜ (r ≡ length (laterValue n i value)) × (r ≤ 11) ⌝ }
+{
+    if n <= i {
+        return 0;
+    }
+    digits_of(value) + 1
+}
+
+fn joined_length(v: Context) -> usize
+    ensures { λ r. ⌜ (r ≡ length (joined v)) × (r ≤ 87) ⌝ }
+{
+    digits_of(v.first)
+        + later_length(v.count, 1, v.second)
+        + later_length(v.count, 2, v.third)
+        + later_length(v.count, 3, v.fourth)
+        + later_length(v.count, 4, v.fifth)
+        + later_length(v.count, 5, v.sixth)
+        + later_length(v.count, 6, v.seventh)
+        + later_length(v.count, 7, v.eighth)
+}
+
+fn context_length(read: u32, v: Context) -> usize
+    ensures { λ r. ⌜ (r ≡ length (contextEnd read v)) × (r ≤ 101) ⌝ }
+{
+    digits_of(read) + joined_length(v) + 4
+}
+
 fn line_length(number: u32, answer: Answer, waiting: u32, marks: u32) -> usize
     ensures { λ r. ⌜ r ≡ length (lineOf number answer waiting marks) ⌝ }
 {
@@ -248,6 +335,9 @@ fn line_length(number: u32, answer: Answer, waiting: u32, marks: u32) -> usize
         Answer::Done => ok_length(number, waiting, marks) + 6,
         Answer::Finished(operation, value, freshness) => {
             ok_length(number, waiting, marks) + finish_length(operation, value, freshness)
+        }
+        Answer::FinishedContext(read, v) => {
+            ok_length(number, waiting, marks) + context_length(read, v)
         }
         Answer::Refused(refusal) => no_length(number, answers::refusal_number(refusal)),
     }

@@ -41,7 +41,7 @@ both P b p q = by-test P b (λ e. p) (λ e. q)
 abbrev Replies : Given → Message → Outcome → Answer → Type 0
 Replies g q u Done = Unit {0}
 Replies g q u (Finished o v f) = (isOpen (g .opens) o ≡ true) × (u .store ≡ g .store) × (c : ℕ) × (q ≡ Reply o v c f)
-Replies g q u (FinishedContext o v) = (isOpen (g .opens) o ≡ true) × (u .store ≡ g .store) × (r : ℕ) × (q ≡ ContextReply o r)
+Replies g q u (FinishedContext o v) = (isOpen (g .opens) o ≡ true) × (u .store ≡ g .store) × (isCount (v .count) ≡ true) × (r : ℕ) × (q ≡ ContextReply o r)
 Replies g q u (Refused r) = Unit {0}
 
 module _ (g : Given) (at choice : ℕ) where
@@ -79,7 +79,7 @@ module _ (g : Given) (at choice : ℕ) where
       both P (isLive (g .store) q) (both P (isContext (contextAt (g .opens) r)) tt tt) tt
   message-replies (ContextReply o r) =
       let P : Opened → Type 0 = λ u. Ends (ContextReply o r) (changingOpens g u) in
-      by-test P (isOpen (g .opens) o) (λ still. both P (isCount (contextAt (g .opens) r .count)) (still, refl, r, refl) tt) (λ shut. tt)
+      by-test P (isOpen (g .opens) o) (λ still. by-test P (isCount (contextAt (g .opens) r .count)) (λ c. (still, refl, c, r, refl)) (λ c. tt)) (λ shut. tt)
   message-replies Unknown = tt
 
 -- ---- a step
@@ -128,8 +128,8 @@ module _ (m : Machine) (at choice : ℕ) where
       let (wide, inside, (still, stays, c, replied)) = subst (Finishes (outcomeOf m (Deliver at choice))) e delivery-finishes in
       record { wide = wide; inside = inside; is-open = still; stays = stays; carried = c; replied = replied }
 
-  -- so for a read of a whole context
-  pub context-by-reply : (o : ℕ) (v : Context) → answerTo m (Deliver at choice) ≡ FinishedContext o v → (isOpen (m .opens) o ≡ true) × (after m (Deliver at choice) .store ≡ m .store)
+  -- so for a read of a whole context, which has 2 to 8 values
+  pub context-by-reply : (o : ℕ) (v : Context) → answerTo m (Deliver at choice) ≡ FinishedContext o v → (isOpen (m .opens) o ≡ true) × (isCount (v .count) ≡ true)
   unfolding answerTo after
   context-by-reply o v e =
-      let (wide, inside, (still, stays, r, replied)) = subst (Finishes (outcomeOf m (Deliver at choice))) e delivery-finishes in (still, stays)
+      let (wide, inside, (still, stays, c, r, replied)) = subst (Finishes (outcomeOf m (Deliver at choice))) e delivery-finishes in (still, c)

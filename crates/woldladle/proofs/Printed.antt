@@ -7,13 +7,15 @@ use Prim.Native.Nat.{ℕ, _≤_}
 use native.Mathlib.Omega.{arith}
 use lib.Dec.{eqb}
 use lib.ListN.{length}
-use borrow.Author.Tests.{eq-eqb, ne-eqb}
+use borrow.Author.Tests.{eq-eqb, ne-eqb, le-ltb}
 use Rattle.switch.specs.DirtySet.{countedMarks}
 use Rattle.waiting.specs.Waiting.{heldIn, held}
+use Rattle.contexts.specs.declared.Context.{Context}
+use Rattle.contexts.specs.{placesOf}
 use Rattle.protocol.specs.declared.Answer.{Answer}
-use Rattle.protocol.specs.declared.Answer.the-variants.{Done, Finished, Refused}
+use Rattle.protocol.specs.declared.Answer.the-variants.{Done, Finished, FinishedContext, Refused}
 use Rattle.protocol.specs.declared.Refusal.{Refusal}
-use Rattle.protocol.specs.declared.Refusal.the-variants.{Format, Replicas, ObjectNumber, OperationsUsedUp, OpenFull, WaitingFull, NoPacket, UnstampedRepeat, NotLive, NoLinkedWrite, SwitchNumber, LastReplica, NotOpen, InputTooLong, BufferTooShort}
+use Rattle.protocol.specs.declared.Refusal.the-variants.{Format, Replicas, ObjectNumber, OperationsUsedUp, OpenFull, WaitingFull, NoPacket, UnstampedRepeat, NotLive, NoLinkedWrite, SwitchNumber, LastReplica, NotOpen, InputTooLong, BufferTooShort, SameObject}
 use Rattle.protocol.specs.declared.Step.{Step}
 use Rattle.protocol.specs.Answers.{refusalNumber}
 use Rattle.protocol.specs.Steps.{Machine, answerTo, after, steppedBy, startRefused, startAnswer}
@@ -22,13 +24,13 @@ use Rattle.records.specs.declared.Found.{Found}
 use Rattle.records.specs.Records.{recordAt}
 use Rattle.lines.specs.Lines.{lineOf}
 use Rattle.sessions.specs.declared.Session.{Session}
-use Rattle.sessions.specs.{refusalIn, operationIn, valueIn, freshnessIn, sessionStarted, wholeStep, askedBy, sessionAfter}
-use Rattle.woldladle.specs.Calls.{answerFrom, lineFor}
-use Rattle.woldladle.proofs.Opens.{Counted, finished-from-1}
+use Rattle.sessions.specs.{refusalIn, operationIn, valuesIn, freshnessIn, sessionStarted, wholeStep, askedBy, sessionAfter}
+use Rattle.calls.specs.Calls.{contextFrom, answerFrom, lineFor}
+use Rattle.woldladle.proofs.Opens.{Counted, finished-from-1, context-from-1}
 
 -- the line of a session, as record k
 abbrev pub lineIn : ℕ → Session → List ℕ
-lineIn k u = lineFor k (u .refusal) (u .operation) (u .value) (u .freshness) (u .waiting) (u .marks)
+lineIn k u = lineFor k (u .refusal) (u .operation) (u .values .count) (placesOf (u .values)) (u .freshness) (u .waiting) (u .marks)
 
 -- no refusal has number 0
 numbered : (r : Refusal) → eqb (refusalNumber r) 0 ≡ false
@@ -47,14 +49,18 @@ numbered LastReplica = refl
 numbered NotOpen = refl
 numbered InputTooLong = refl
 numbered BufferTooShort = refl
+numbered SameObject = refl
 
 -- an answer's numbers give its line, where it finishes no operation 0
 line-of : (k : ℕ) (a : Answer) (waiting marks : ℕ) → ((o v f : ℕ) → a ≡ Finished o v f → 1 ≤ o) →
-    lineFor k (refusalIn a) (operationIn a) (valueIn a) (freshnessIn a) waiting marks ≡ lineOf k a (heldIn waiting) marks
-unfolding lineFor answerFrom lineOf
-line-of k Done waiting marks h = refl
-line-of k (Finished o v f) waiting marks h = rw (ne-eqb o 0 (λ e. omega (arith, h o v f refl, e)))
-line-of k (Refused r) waiting marks h = rw (numbered r)
+    ((o : ℕ) (v : Context) → a ≡ FinishedContext o v → (1 ≤ o) × (2 ≤ v .count)) →
+    lineFor k (refusalIn a) (operationIn a) (valuesIn a .count) (placesOf (valuesIn a)) (freshnessIn a) waiting marks ≡ lineOf k a (heldIn waiting) marks
+unfolding lineFor answerFrom contextFrom lineOf
+line-of k Done waiting marks h d = refl
+line-of k (Finished o v f) waiting marks h d = rw (ne-eqb o 0 (λ e. omega (arith, h o v f refl, e)))
+line-of k (FinishedContext o v) waiting marks h d =
+    let t = d o v refl in rw (ne-eqb o 0 (λ e. omega (arith, t .0, e)), le-ltb (v .count) 2 (t .1))
+line-of k (Refused r) waiting marks h d = rw (numbered r)
 
 -- the step of a record that fills the lent bytes
 asked-whole : (bytes : List ℕ) (x : Step) → recordAt bytes 0 ≡ Found.Record x (length bytes) → askedBy bytes ≡ x
@@ -67,7 +73,7 @@ pub step-line : (k : ℕ) (m : Machine) (bytes : List ℕ) (x : Step) → Counte
 unfolding sessionAfter
 step-line k m bytes x c e =
     ap (λ (y : Step). lineIn k (sessionAfter (steppedBy m y))) (asked-whole bytes x e)
-    ∙ line-of k (answerTo m x) (after m x .waiting .count) (countedMarks (after m x .switch)) (finished-from-1 m x c)
+    ∙ line-of k (answerTo m x) (after m x .waiting .count) (countedMarks (after m x .switch)) (finished-from-1 m x c) (context-from-1 m x c)
 
 -- after a start: the line of its `startedWith`
 pub start-line : (k n : ℕ) (u : Session) → lineIn k (sessionStarted n u) ≡ lineOf k (startAnswer n) 0 0

@@ -9,18 +9,19 @@ use Rattle.switch.proofs.Laws.{new-counted}
 use Rattle.waiting.specs.declared.Packet.{Packet}
 use Rattle.waiting.specs.Waiting.{waitingList}
 use Rattle.protocol.specs.declared.Answer.{Answer}
-use Rattle.protocol.specs.declared.Answer.the-variants.{Done, Finished, Refused}
+use Rattle.protocol.specs.declared.Answer.the-variants.{Done, Finished, FinishedContext, Refused}
 use Rattle.protocol.specs.declared.Refusal.the-variants.{Replicas}
 use Rattle.protocol.specs.declared.Step.{Step}
 use Rattle.protocol.specs.Steps.{Machine, machine, answerTo, after, steppedBy, startRefused, startAnswer, startSwitch, startStore, startOpens}
 use Rattle.protocol.proofs.Refusals.{refused-unchanged, start-cases}
 use Rattle.sessions.specs.declared.Session.{Session}
-use Rattle.sessions.specs.{refusalIn, askedBy, sessionStarted, sessionAfter}
+use Rattle.sessions.specs.{refusalIn, noValues, askedBy, sessionStarted, sessionAfter}
 
 -- an answer with a number is a refusal
 kept : (m : Machine) (x : Step) (a : Answer) → answerTo m x ≡ a → refusalIn a ≢ 0 → after m x ≡ m
 kept m x Done e h = absurd (h refl)
 kept m x (Finished o v f) e h = absurd (h refl)
+kept m x (FinishedContext o v) e h = absurd (h refl)
 kept m x (Refused r) e h = refused-unchanged m x r e
 
 -- a refused step, whatever the bytes, the session and what is lent: the switch, the store, the open operations and the packets are as they were, and so are the
@@ -47,10 +48,10 @@ pub start-counted : (n : ℕ) (u : Session) (switch : List ℕ) → startRefused
 unfolding sessionStarted startSwitch
 start-counted n u switch e = rw (e, new-counted)
 
--- a refused start: everything but the refusal, the operation, its value and its freshness is as it was
+-- a refused start: everything but the refusal, the operation, its values and its freshness is as it was
 abbrev StartKept : ℕ → Session → Type 0
 StartKept n u =
-    (sessionStarted n u ≡ record { refusal = 2; operation = 0; value = 0; freshness = 0; marks = u .marks; waiting = u .waiting })
+    (sessionStarted n u ≡ record { refusal = 2; operation = 0; values = noValues; freshness = 0; marks = u .marks; waiting = u .waiting })
     × ((l : List ℕ) → startSwitch n l ≡ l) × ((l : List ℕ) → startStore n l ≡ l) × ((l : List ℕ) → startOpens n l ≡ l)
 
 pub session-start-unchanged : (n : ℕ) (u : Session) → sessionStarted n u .refusal ≢ 0 → StartKept n u

@@ -1,12 +1,10 @@
 // The model for callers in C and Rust: a session and lent memory, records and lines. bindings/c/woldladle.h says where each thing lies.
 ghost use mathlib.Core.Path.{_≡_};
+ghost use Rattle.calls.specs.Calls.{lineFor, putBytes, recordRefusal, recordBuffer, contextRefusal, contextBuffer, recordSize, valueOf, stampIn};
+ghost use Rattle.lines.specs.Text.{putIn};
 ghost use Rattle.waiting.specs.Waiting.{waitingList};
 ghost use Rattle.protocol.specs.Steps.{machine, after, steppedBy, startSwitch, startStore, startOpens};
 ghost use Rattle.sessions.specs.{sessionStarted, askedBy, sessionAfter};
-
-pub mod cells;
-pub mod lines_out;
-pub mod records_out;
 
 use sessions::Session;
 use waiting::Packet;
@@ -50,4 +48,76 @@ pub extern "C" fn woldladle_step(
     let x = sessions::asked(bytes);
     let done = machine::step(switch, store, opens, packets, before.waiting, x);
     *session = sessions::noted(done);
+}
+
+// The line of record `number`, from the fields of its session, at the start of the buffer. How many bytes it has: 0 where the buffer is too short, and
+// unchanged.
+#[no_mangle]
+pub extern "C" fn woldladle_line(
+    number: u32,
+    refusal: u8,
+    operation: u32,
+    count: u32,
+    values: &[u32; 8],
+    freshness: u32,
+    waiting: usize,
+    marks: u32,
+    out: &mut [u8],
+) -> usize
+    ensures { λ r. ⌜ (r ≡ putBytes (now (out .entry)) (lineFor number refusal operation count (now (values .entry)) freshness waiting marks))
+        × (now (out .exit) ≡ putIn (now (out .entry)) 0 (lineFor number refusal operation count (now (values .entry)) freshness waiting marks)) ⌝ }
+{
+    calls::lines_out::line(
+        number,
+        refusal,
+        operation,
+        count,
+        values,
+        freshness,
+        waiting,
+        marks,
+        &mut *out,
+    )
+}
+
+// Writes a record at the start of the buffer: its tag, and its numbers in the order of the record, 0 for one that it does not have. 0, or refusal 1 where there is
+// no such record, or 15 where the buffer is too short; a refusal leaves the buffer as it was.
+#[no_mangle]
+pub extern "C" fn woldladle_write_record(tag: u8, first: u32, second: u32, out: &mut [u8]) -> u8
+    ensures { λ r. ⌜ (r ≡ recordRefusal (now (out .entry)) tag first second) × (now (out .exit) ≡ recordBuffer (now (out .entry)) tag first second) ⌝ }
+{
+    calls::records_out::write_record(tag, first, second, &mut *out)
+}
+
+// Writes the record of a read of a whole context at the start of the buffer. 0, or refusal 1 where there are not 2 to 8 objects, or 15 where the buffer is too short; a
+// refusal leaves the buffer as it was.
+#[no_mangle]
+pub extern "C" fn woldladle_write_context(objects: &[u16], out: &mut [u8]) -> u8
+    ensures { λ r. ⌜ (r ≡ contextRefusal (now (out .entry)) (now (objects .entry))) × (now (out .exit) ≡ contextBuffer (now (out .entry)) (now (objects .entry))) ⌝ }
+{
+    calls::records_out::write_context(objects, &mut *out)
+}
+
+// How many bytes the record of a tag has, 0 for an unknown tag and for that of a read of a whole context.
+#[no_mangle]
+pub extern "C" fn woldladle_record_length(tag: u8) -> u16
+    ensures { λ r. ⌜ r ≡ recordSize tag ⌝ }
+{
+    calls::records_out::record_length(tag)
+}
+
+// The value of an object at a replica, removed or not: 0 where there is no such replica or object.
+#[no_mangle]
+pub extern "C" fn woldladle_value(store: &[u32; store::CELLS], replica: u8, object: u32) -> u32
+    ensures { λ r. ⌜ r ≡ valueOf (now (store .entry)) replica object ⌝ }
+{
+    calls::cells::value(store, replica, object)
+}
+
+// Its stamp: the switch number times 65,536, and the counter.
+#[no_mangle]
+pub extern "C" fn woldladle_stamp(store: &[u32; store::CELLS], replica: u8, object: u32) -> u32
+    ensures { λ r. ⌜ r ≡ stampIn (now (store .entry)) replica object ⌝ }
+{
+    calls::cells::stamp(store, replica, object)
 }

@@ -201,7 +201,7 @@ module _ {M : Type 1} (𝓤 : URA M) (H : Heap 𝓤) (A : Atoms 𝓤) (W : Given
         use1 W (later (given (Is TX.the-row y (w ∷ [])) (‵ (flft κ₄ q₄)))) (gives-asked w) $ await ! tt $ learn ! (λ iy.
         let told-y : w ∷ [] ≡ step-vals y = EL.tells TX.the-type TX′.the-laws y (w ∷ []) iy in
         land ! (from ! (stop !)) (init ! 28 refl (EL.lawful TX.the-type TX′.the-laws 𝓤 H A W tt .typed y _ iy .0)) $ rewrite ! 28 (λ (u : Val). ‵ (fat fullShare TX′.mir l₈ 0 u)) (ap only told-y) refl $
-        -- the switch's numbers, the store, the open operations and the packets go to `machine::step`, with the count, which lies at byte 24 of a session
+        -- the switch's numbers, the store, the open operations and the packets go to `machine::step`, with the count, which lies at byte 56 of a session
         assigns ! (addr ! (from ! (hop ! (look ! 40 refl) (stop !)))) (from ! (stop !)) (init ! 24 refl (tt, tt)) $
         assigns ! (addr ! (from ! (hop ! (look ! 38 refl) (stop !)))) (from ! (stop !)) (init ! 22 refl (tt, tt)) $
         assigns ! (addr ! (from ! (hop ! (look ! 36 refl) (stop !)))) (from ! (stop !)) (init ! 20 refl (tt, tt)) $
@@ -210,7 +210,7 @@ module _ {M : Type 1} (𝓤 : URA M) (H : Heap 𝓤) (A : Atoms 𝓤) (W : Given
         move ! (7 ∷ 11 ∷ []) $ join ! $ move ! (11 ∷ 0 ∷ []) $ join ! $ move ! (8 ∷ 0 ∷ []) $ join ! $ move ! (10 ∷ 0 ∷ []) $ join ! $ move ! (8 ∷ 0 ∷ []) $ join ! $ move ! (7 ∷ 8 ∷ 0 ∷ []) $
         use3 W (raw (Stepping 𝓤 H A at-mem run .pre (to-step 𝓤 H A W at-mem run κ₀ κ₁ κ₂ κ₃ q₀ q₁ q₂ q₃ b₀ o₀ γ₀ ns b₁ o₁ γ₁ cs b₂ o₂ γ₂ os b₃ o₃ γ₃ ps n y))) (goes-step 𝓤 H A W at-mem run κ₀ κ₁ κ₂ κ₃ q₀ q₁ q₂ q₃ b₀ o₀ γ₀ ns b₁ o₁ γ₁ cs b₂ o₂ γ₂ os b₃ o₃ γ₃ ps n y (fields .1 .1 .1 .1 .1 .0 .1) (subst (Is TX.the-row y) told-y iy)) $
         calls-at ! fm (Stepping 𝓤 H A at-mem run) steps (to-step 𝓤 H A W at-mem run κ₀ κ₁ κ₂ κ₃ q₀ q₁ q₂ q₃ b₀ o₀ γ₀ ns b₁ o₁ γ₁ cs b₂ o₂ γ₂ os b₃ o₃ γ₃ ps n y) (and-then ! (load ! (from ! (stop !)) (look ! 17 refl)) (and-then ! (load ! (from ! (stop !)) (look ! 15 refl)) (and-then ! (load ! (from ! (stop !)) (look ! 13 refl))
-        (and-then ! (load ! (from ! (stop !)) (look ! 9 refl)) (and-then ! (load ! (from ! (fld ! {τ = word} {d = 24} refl (stop !))) (look-in ! 23 (sub ! 5 {τ = word} {d = 24} refl (whole !)))) (and-then ! (load ! (from ! (stop !)) (look ! 21 refl)) (no-more !))))))) (λ w₁.
+        (and-then ! (load ! (from ! (stop !)) (look ! 9 refl)) (and-then ! (load ! (from ! (fld ! {τ = word} {d = 56} refl (stop !))) (look-in ! 23 (sub ! 5 {τ = word} {d = 56} refl (whole !)))) (and-then ! (load ! (from ! (stop !)) (look ! 21 refl)) (no-more !))))))) (λ w₁.
         use1 W (later (given (Did 𝓤 H A W at-mem run κ₀ κ₁ κ₂ κ₃ q₀ q₁ q₂ q₃ b₀ o₀ γ₀ ns b₁ o₁ γ₁ cs b₂ o₂ γ₂ os b₃ o₃ γ₃ ps n y w₁) left)) (gives-step 𝓤 H A W at-mem run κ₀ κ₁ κ₂ κ₃ q₀ q₁ q₂ q₃ b₀ o₀ γ₀ ns b₁ o₁ γ₁ cs b₂ o₂ γ₂ os b₃ o₃ γ₃ ps n y w₁) $ await ! tt $ learn ! (λ did.
         let told-r : w₁ ∷ [] ≡ stepped-vals r = LL.tells TS.the-type TS′.the-laws r (w₁ ∷ []) (did .0) in
         land ! (from ! (stop !)) (init ! 19 refl (LL.lawful TS.the-type TS′.the-laws 𝓤 H A W .typed r _ (did .0) .0)) $ rewrite ! 19 (λ (u : Val). ‵ (fat fullShare TS′.mir l₉ 0 u)) (ap only told-r) refl $

@@ -1,0 +1,2 @@
+-- What the exported functions take and give.
+pub mod Calls

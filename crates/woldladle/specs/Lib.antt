@@ -1,2 +1,0 @@
--- The model for callers in C and Rust.
-pub mod Calls
