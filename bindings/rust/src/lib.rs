@@ -10,7 +10,7 @@ use raw::{Packet, Session, OPENS, PLACES, STORE, SWITCH};
 pub const LONGEST_RECORD: usize = 19;
 pub const LONGEST_LINE: usize = 137;
 pub const LONGEST_INPUT: usize = 65_536;
-pub const OUTPUT_ROOM: usize = 2_244_608;
+pub const OUTPUT_ROOM: usize = 2_359_296;
 /// The most objects that one read names.
 pub const LONGEST_CONTEXT: usize = 8;
 

@@ -6,10 +6,10 @@ ghost use lib.ListN.{length};
 use libc::STDOUT_FILENO;
 
 // Room for the lines of any input: `printed-short`, crates/runs/proofs/Whole.antt.
-fn output_room() -> [u8; 1048576]
-    ensures { λ r. ⌜ 1048576 ≡ length r ⌝ }
+fn output_room() -> [u8; 2359296]
+    ensures { λ r. ⌜ 2359296 ≡ length r ⌝ }
 {
-    [0; 1048576]
+    [0; 2359296]
 }
 
 fn say(name: &[u8]) {

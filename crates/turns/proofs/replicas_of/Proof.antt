@@ -1,0 +1,35 @@
+use borrow.Author.Needs.{needs}
+use Rattle.turns.proofs.replicas_of.Statement.{statement}
+use Rattle.turns.proofs.replicas_of.Tie as tie
+
+returns-12 : tie.Need-returns-12
+returns-12 c = rw (c .before .x12 .given .1)
+
+pub replicas-of-spec : {M : Type 1} → statement M
+replicas-of-spec =
+    tie.close
+    (tie.spec
+    (λ c. search needs)
+    (λ c. search needs)
+    (λ c. search needs)
+    (λ c. search needs)
+    (λ c. search needs)
+    (λ c. search needs)
+    (λ c. search needs)
+    (λ c. search needs)
+    (λ c. search needs)
+    (λ c. search needs)
+    (λ c. search needs)
+    (λ c. search needs)
+    (λ c. search needs)
+    (λ c. search needs)
+    (λ c. search needs)
+    (λ c. search needs)
+    (λ c. search needs)
+    (λ c. search needs)
+    (λ c. search needs)
+    (λ c. search needs)
+    (λ c. search needs)
+    (λ c. search needs)
+    (λ c. search needs)
+    returns-12)
