@@ -5,15 +5,15 @@
  *
  * What a session is lent, and nothing else: the libraries allocate no memory and keep nothing between calls.
  *
- *   struct woldladle_session        32 bytes, aligned to 8
+ *   struct woldladle_session        64 bytes, aligned to 8
  *   uint32_t switch_numbers[100]    400 bytes: the switch and its marks
  *   uint32_t store[16673]           66,692 bytes: the chain, the values and stamps of the replicas, and the writes in the links
- *   uint32_t opens[66]              264 bytes: the open operations
+ *   uint32_t opens[642]             2,568 bytes: the open operations, and a row for each waiting packet of a read of several objects
  *   packets[64]                     1,536 bytes: the waiting packets, oldest first; a longer array is taken too, and its first 64 places are used
  *
  * struct woldladle_model has all of it. The session is set to zeros before its first start; the rest may hold anything. From an accepted start on nobody but the
- * library writes in it, until the next accepted start. No pointer is kept, and what is lent lies apart. Lengths are in bytes, of `packets` in places. Every value of
- * every argument is taken: what is not allowed is refused by document 01's number.
+ * library writes in it, until the next accepted start. No pointer is kept, and what is lent lies apart. A `length` is in bytes; `places` counts packets, and `count`
+ * objects or values. Every value of every argument is taken: what is not allowed is refused by the number that document 01 or 02 gives it.
  */
 #ifndef WOLDLADLE_H
 #define WOLDLADLE_H
@@ -27,14 +27,16 @@ extern "C" {
 
 #define WOLDLADLE_SWITCH 100
 #define WOLDLADLE_STORE 16673
-#define WOLDLADLE_OPENS 66
+#define WOLDLADLE_OPENS 642
 #define WOLDLADLE_PLACES 64
-#define WOLDLADLE_LONGEST_RECORD 9
-#define WOLDLADLE_LONGEST_LINE 62
+#define WOLDLADLE_LONGEST_CONTEXT 8 /* the most objects that one read names */
+#define WOLDLADLE_LONGEST_RECORD 19
+#define WOLDLADLE_LONGEST_LINE 137
 #define WOLDLADLE_LONGEST_INPUT 65536
-#define WOLDLADLE_OUTPUT_ROOM 1048576 /* room for the output of any input */
+#define WOLDLADLE_OUTPUT_ROOM 2359296 /* room for the output of any input */
 
-/* What a finished read says, if its object had a counting mark when the switch sent it to the tail: the stamp of its value is below the mark's (old), or it is not (new). */
+/* What a finished read says, if its object had a counting mark when the switch sent it to the tail: the stamp of its value is below the mark's (old), or it is not (new).
+ * A read of several objects says neither. */
 #define WOLDLADLE_NONE 0
 #define WOLDLADLE_OLD 1
 #define WOLDLADLE_NEW 2
@@ -43,7 +45,8 @@ extern "C" {
 struct woldladle_session {
     uint8_t refusal;    /* 0, or the number of the refusal: then `marks`, `waiting` and all that is lent are as they were */
     uint32_t operation; /* the operation just finished, or 0 */
-    uint32_t value;     /* and its value, or 0 */
+    uint32_t count;     /* how many values it has: 0 where none finished, 1, or 2 to 8 for a read of so many objects */
+    uint32_t values[WOLDLADLE_LONGEST_CONTEXT]; /* in the order given; 0 behind the last */
     uint32_t freshness; /* WOLDLADLE_OLD or WOLDLADLE_NEW, else WOLDLADLE_NONE */
     uint32_t marks;     /* marks counting */
     size_t waiting;     /* packets waiting, which the next step begins with */
@@ -57,18 +60,24 @@ struct woldladle_packet {
 void woldladle_start(struct woldladle_session *session, uint32_t *switch_numbers, uint32_t *store, uint32_t *opens, uint8_t n);
 
 /* The step of one record, all of whose `length` bytes are lent. Refusals in this order: 1 where the bytes are not one whole record, and for a start; 15 where there are
- * fewer than 64 places for packets; 3 to 13 as document 01 has them. */
+ * fewer than 64 places for packets; 3 to 13 as document 01 has them, and 16, where a read of several objects names one twice, after 3 and before 4. */
 void woldladle_step(struct woldladle_session *session, uint32_t *switch_numbers, uint32_t *store, uint32_t *opens, struct woldladle_packet *packets, size_t places,
                     const uint8_t *record, size_t length);
 
-/* The line that the run program prints for record `number`, from the session's fields. How many bytes, 0 where `out` is too short and left as it was. */
-size_t woldladle_line(uint32_t number, uint8_t refusal, uint32_t operation, uint32_t value, uint32_t freshness, size_t waiting, uint32_t marks, uint8_t *out,
-                      size_t length);
+/* The line that the run program prints for record `number`, from the session's fields: where an operation finished, the first `count` values, one at the least and eight
+ * at the most, and `freshness` where that is one value. How many bytes, 0 where `out` is too short and left as it was. */
+size_t woldladle_line(uint32_t number, uint8_t refusal, uint32_t operation, uint32_t count, const uint32_t values[WOLDLADLE_LONGEST_CONTEXT], uint32_t freshness,
+                      size_t waiting, uint32_t marks, uint8_t *out, size_t length);
 
-/* Writes the record of a tag with its numbers in their order, 0 for one that it does not have. 0; or 1 where no such record exists; or 15 where `out` is too short. */
+/* Writes the record of a tag with its numbers in their order, 0 for one that it does not have. 0; or 1 where no such record exists, and for tag 11, whose record
+ * woldladle_write_context writes; or 15 where `out` is too short. A refusal leaves `out` as it was. */
 uint8_t woldladle_write_record(uint8_t tag, uint32_t first, uint32_t second, uint8_t *out, size_t length);
 
-/* How many bytes the record of a tag has, 0 for an unknown tag. */
+/* Writes the record of a read of `count` objects (tag 11), 3 + 2 * count bytes. 0; or 1 where `count` is not 2 to 8; or 15 where `out` is too short. A refusal leaves `out`
+ * as it was. Any objects are written: the step refuses those that it does not allow. */
+uint8_t woldladle_write_context(const uint16_t *objects, size_t count, uint8_t *out, size_t length);
+
+/* How many bytes the record of a tag has, 0 for an unknown tag, and for tag 11, whose record has no fixed length. */
 uint16_t woldladle_record_length(uint8_t tag);
 
 /* The value and the stamp (switch number times 65,536, and counter) of an object at a replica, removed or not; 0 where there is no such replica or object. */
@@ -76,7 +85,7 @@ uint32_t woldladle_value(const uint32_t *store, uint8_t replica, uint32_t object
 uint32_t woldladle_stamp(const uint32_t *store, uint8_t replica, uint32_t object);
 
 /* Everything that the run program prints for a file of records. How many bytes the whole output has, whatever `room` is: `out` holds its whole lines, from the front up
- * to the first that does not fit, and every byte after them is as it was. It takes 70 KB of stack. */
+ * to the first that does not fit, and every byte after them is as it was. It takes 73 KB of stack. */
 size_t woldladle_run(const uint8_t *input, size_t length, uint8_t *out, size_t room);
 
 /* All that a session is lent, and the calls over it. The switch begins with a cache line: where it lay across the end of a page, the average step took a tenth longer. */
@@ -101,7 +110,7 @@ static inline uint8_t woldladle_model_step(struct woldladle_model *model, const 
 
 static inline size_t woldladle_model_line(const struct woldladle_model *model, uint32_t number, uint8_t *out, size_t length) {
     const struct woldladle_session *s = &model->session;
-    return woldladle_line(number, s->refusal, s->operation, s->value, s->freshness, s->waiting, s->marks, out, length);
+    return woldladle_line(number, s->refusal, s->operation, s->count, s->values, s->freshness, s->waiting, s->marks, out, length);
 }
 
 #ifdef __cplusplus

@@ -226,12 +226,7 @@ pub fn normal_read(
 
 // ---- a reply
 
-pub fn finish(
-    opens: &mut [u32; operations::CELLS],
-    at: usize,
-    o: Operation,
-    r: u32,
-) -> Decision
+pub fn finish(opens: &mut [u32; operations::CELLS], at: usize, o: Operation, r: u32) -> Decision
     ensures { λ d. ⌜ (d ≡ contextReply (now (opens .entry)) at o r .decision) × (now (opens .exit) ≡ contextReply (now (opens .entry)) at o r .opens) ⌝ }
 {
     if !operations::is_open(opens, o) {

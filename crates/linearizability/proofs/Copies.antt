@@ -71,9 +71,15 @@ module _ (p : Packet) (low : 8 ≤ p .kind) where
   context-message : (s : ℕ) → messageOf (inRow p s) ≡ contextMessage (inRow p s)
   unfolding messageOf
   context-message s =
-      rw (ne-eqb (p .kind) 1 (λ e. omega (arith, e, low)), ne-eqb (p .kind) 2 (λ e. omega (arith, e, low)), ne-eqb (p .kind) 3 (λ e. omega (arith, e, low)),
-      ne-eqb (p .kind) 4 (λ e. omega (arith, e, low)), ne-eqb (p .kind) 5 (λ e. omega (arith, e, low)), ne-eqb (p .kind) 6 (λ e. omega (arith, e, low)),
-      ne-eqb (p .kind) 7 (λ e. omega (arith, e, low)))
+      rw (
+        ne-eqb (p .kind) 1 (λ e. omega (arith, e, low)),
+        ne-eqb (p .kind) 2 (λ e. omega (arith, e, low)),
+        ne-eqb (p .kind) 3 (λ e. omega (arith, e, low)),
+        ne-eqb (p .kind) 4 (λ e. omega (arith, e, low)),
+        ne-eqb (p .kind) 5 (λ e. omega (arith, e, low)),
+        ne-eqb (p .kind) 6 (λ e. omega (arith, e, low)),
+        ne-eqb (p .kind) 7 (λ e. omega (arith, e, low)),
+      )
 
   in-family : p .kind ≤ 11 → (q : ℕ → Message) × Family q × ((s : ℕ) → contextMessage (inRow p s) ≡ q s)
   unfolding contextMessage

@@ -202,8 +202,13 @@ module _ {m : Machine} {h : History} {es : List Entry} (g : Good m h es) (wide :
       (posted-add {s = m .store} (messages (m .waiting)) (ContextRead number row) (g .posted) tt)
       (books-same (opens-holding (opening (m .opens) number) row (contextOf x)) (sized-holding (opening (m .opens) number) row (contextOf x) sized)
       (books-begin g (reads objects) (objects-small (contextOf x) small) room left))
-      (omega (arith, g .counted, unstamped-append (messages (m .waiting)) (ContextRead number row ∷ []), last-opening (m .opens) number (g .books .cells) room,
-      same-last (opens-holding (opening (m .opens) number) row (contextOf x))))
+      (omega (
+        arith,
+        g .counted,
+        unstamped-append (messages (m .waiting)) (ContextRead number row ∷ []),
+        last-opening (m .opens) number (g .books .cells) room,
+        same-last (opens-holding (opening (m .opens) number) row (contextOf x)),
+      ))
       (g .switch-sized) (waiting.exact-edited (m .waiting) _ (g .exact)))
 
   good-begin-context : Begins (beginContext (m .opens) (held (m .waiting)) x)

@@ -1,14 +1,16 @@
--- Document 01, 'Points to prove, marked P': a table with a row for each, and one theorem, that every test of every row passes.
+-- Document 01, 'Points to prove, marked P': a table with a row for each, and one theorem, that every test of every row passes; and the same for document 02's Req 02, the
+-- refusals of a read of a whole context.
 use mathlib.Core.Path.{_≡_, refl}
 use mathlib.Core.Bool.{Bool, true, false, cond, not}
 use mathlib.Core.List.{List, [], _∷_}
 use Prim.Native.Nat.{ℕ, _+_}
 use lib.Dec.{eqb}
-use lib.ListN.{replicate}
+use lib.ListN.{getD, replicate}
 use Rattle.limits.specs as limits
-use Rattle.lists.specs.{indexOf, listOf, moves}
+use Rattle.lists.specs.{indexOf, listOf, moves, allOf}
+use Rattle.contexts.specs.{placeOf, sizeOf, numbersOf, isCount, isObject, areObjects, standsFirst, areDifferent, emptyAt, isNaming, rowCell, sizeAt, freeRow}
 use Rattle.stamp.specs.Stamps.{stampOf, numberOf, counterOf, isAbove, largerOf}
-use Rattle.operations.specs.{noneOpen, openCount, lastGiven, roomToOpen}
+use Rattle.operations.specs.{noneOpen, openCount, lastGiven, roomToOpen, opening}
 use Rattle.store.specs.{entryCell, valueCell, stampCell, storeCells, liveCount, orderAt, members, rowOf, highestOf, permittedBy, appliedBy, valueAt, stampAt, logged, tabled, raised}
 use Rattle.chain.specs.{chainPlace, isLive, memberAt, headOf, tailOf, chosenBy, removed, emptyCells, numbered, emptyStore}
 use Rattle.replicas.specs.Replicas.{linkedWrites, accepts, nextPosition, applying, taking, answersDirect}
@@ -22,12 +24,13 @@ use Rattle.protocol.specs.declared.Answer.the-variants.{Done, Finished, 
 use Rattle.protocol.specs.declared.Message.{Message}
 use Rattle.protocol.specs.declared.Message.the-variants.{UnstampedWrite, StampedWrite, NormalRead, Reply}
 use Rattle.protocol.specs.declared.Decision.{Decision}
-use Rattle.protocol.specs.declared.Step.the-variants.{BeginRead, BeginWrite, Deliver, Repeat}
+use Rattle.protocol.specs.declared.Step.{Step}
+use Rattle.protocol.specs.declared.Step.the-variants.{BeginRead, BeginWrite, Deliver, Repeat, BeginContext}
 use Rattle.protocol.specs.Answers.{refusalNumber, noFreshness}
 use Rattle.protocol.specs.Messages.{packetOf, messageOf, isUnstamped, isOfContext}
 use Rattle.protocol.specs.Decisions.{refusing, passing, overfull}
 use Rattle.protocol.specs.Delivery.{directRead, stampedWrite, deliveredMessage}
-use Rattle.protocol.specs.Steps.{Machine, machine, startRefused, startAnswer, beginOperation, delivered, copied, repeated, positionOf, isMalformed, decided, decidedIn, answerTo, after}
+use Rattle.protocol.specs.Steps.{Machine, machine, startRefused, startAnswer, beginOperation, beginContext, delivered, copied, repeated, positionOf, isMalformed, decided, decidedIn, answerTo, after}
 
 -- a point of document 01: its number, and tests that must all pass
 pub record Point : Type 0 where
@@ -108,6 +111,20 @@ writeOfP10 = StampedWrite 1 (record { operation = 1; object = 5; value = 9; stam
 storeOfP11 : List ℕ
 storeOfP11 = removed (emptyStore 4) 3
 
+-- a step that names n objects: these eight, as far as they are given
+naming : ℕ → List ℕ → Step
+naming n xs = BeginContext (record {
+  count = n;
+  first = getD xs 0 0;
+  second = getD xs 1 0;
+  third = getD xs 2 0;
+  fourth = getD xs 3 0;
+  fifth = getD xs 4 0;
+  sixth = getD xs 5 0;
+  seventh = getD xs 6 0;
+  eighth = getD xs 7 0;
+})
+
 -- ---- the table
 
 -- P1 to P11, each under its sentence
@@ -145,7 +162,35 @@ points =
     point 11 (eqb (liveCount storeOfP11) 3 ∷ eqb (chosenBy storeOfP11 5) 4 ∷ []) ∷
     []
 
+-- Req 02, 'Order of refusals at tag 11': 1, 3, 16, then 4 to 6
+pub context-points : List Point
+context-points =
+    -- 2 to 8 objects are taken
+    point 1
+    (gives (answerTo (lone emptyList) (naming 2 (5 ∷ 6 ∷ []))) 0 ∷
+    gives (answerTo (lone emptyList) (naming 8 (0 ∷ 1 ∷ 2 ∷ 3 ∷ 4 ∷ 5 ∷ 6 ∷ 1023 ∷ []))) 0 ∷ []) ∷
+    -- another number of objects, or something behind the last: 1, before 3 and 16
+    point 2
+    (gives (answerTo (lone emptyList) (naming 0 [])) 1 ∷ gives (answerTo (lone emptyList) (naming 1 (5 ∷ []))) 1 ∷
+    gives (answerTo (lone emptyList) (naming 9 (0 ∷ 1 ∷ 2 ∷ 3 ∷ 4 ∷ 5 ∷ 6 ∷ 7 ∷ []))) 1 ∷
+    gives (answerTo (lone emptyList) (naming 2 (1024 ∷ 1024 ∷ 5 ∷ []))) 1 ∷ []) ∷
+    -- an object above 1,023: 3, before 16
+    point 3
+    (gives (answerTo (lone emptyList) (naming 2 (5 ∷ 1024 ∷ []))) 3 ∷ gives (answerTo (lone emptyList) (naming 2 (1024 ∷ 1024 ∷ []))) 3 ∷
+    gives (answerTo (lone emptyList) (naming 3 (5 ∷ 5 ∷ 1024 ∷ []))) 3 ∷ []) ∷
+    -- an object named twice: 16, before 6
+    point 4
+    (gives (answerTo (lone emptyList) (naming 2 (5 ∷ 5 ∷ []))) 16 ∷ gives (answerTo (lone emptyList) (naming 8 (7 ∷ 1 ∷ 2 ∷ 3 ∷ 4 ∷ 5 ∷ 6 ∷ 7 ∷ []))) 16 ∷
+    gives (answerTo (lone (copies 64 writeOfP10)) (naming 2 (5 ∷ 5 ∷ []))) 16 ∷ []) ∷
+    -- 64 packets wait: 6
+    point 5 (gives (answerTo (lone (copies 64 writeOfP10)) (naming 2 (5 ∷ 6 ∷ []))) 6 ∷ gives (answerTo (lone (copies 63 writeOfP10)) (naming 2 (5 ∷ 6 ∷ []))) 0 ∷ []) ∷
+    []
+
 -- the definitions compute every row, and no row is missing
 pub points-hold : allHold 1 11 points ≡ true
 unfolding points allHold allTrue gives lone copies emptyList markedAll switchOfP4 switchOfP7 storeOfP6 readOfP6 sends writeOfP10 storeOfP11 stampOf numberOf counterOf isAbove largerOf noneOpen openCount lastGiven roomToOpen indexOf listOf moves entryCell valueCell stampCell storeCells liveCount orderAt members rowOf highestOf permittedBy appliedBy valueAt stampAt logged tabled raised chainPlace isLive memberAt headOf tailOf chosenBy removed emptyCells numbered emptyStore linkedWrites accepts nextPosition applying taking answersDirect numberIn counterIn committedIn slotObject slotStamp firstSlot secondSlot thirdSlot holdsObject countsAbove isFree holdsAbove freeSlot slotFor markAbove lookedUp nextStamp marking canMark marked isCompleted clearedAt completed newSwitch countedTo countedMarks heldIn noneWait lookAt takesOut leftBy fits afterTaking adding edited packetOf messageOf isUnstamped isOfContext refusing passing overfull directRead stampedWrite deliveredMessage startRefused startAnswer beginOperation delivered copied repeated positionOf isMalformed decided decidedIn answerTo after
 points-hold = refl
+
+pub context-points-hold : allHold 1 5 context-points ≡ true
+unfolding context-points naming allHold allTrue gives lone copies emptyList markedAll switchOfP4 switchOfP7 storeOfP6 readOfP6 sends writeOfP10 storeOfP11 stampOf numberOf counterOf isAbove largerOf noneOpen openCount lastGiven roomToOpen indexOf listOf moves entryCell valueCell stampCell storeCells liveCount orderAt members rowOf highestOf permittedBy appliedBy valueAt stampAt logged tabled raised chainPlace isLive memberAt headOf tailOf chosenBy removed emptyCells numbered emptyStore linkedWrites accepts nextPosition applying taking answersDirect numberIn counterIn committedIn slotObject slotStamp firstSlot secondSlot thirdSlot holdsObject countsAbove isFree holdsAbove freeSlot slotFor markAbove lookedUp nextStamp marking canMark marked isCompleted clearedAt completed newSwitch countedTo countedMarks heldIn noneWait lookAt takesOut leftBy fits afterTaking adding edited packetOf messageOf isUnstamped isOfContext refusing passing overfull directRead stampedWrite deliveredMessage startRefused startAnswer beginOperation beginContext delivered copied repeated positionOf isMalformed decided decidedIn answerTo after allOf placeOf sizeOf numbersOf isCount isObject areObjects standsFirst areDifferent emptyAt isNaming rowCell sizeAt freeRow opening
+context-points-hold = refl

@@ -77,9 +77,7 @@ fn enter(opens: &mut [u32; operations::CELLS], row: u32, v: Context) -> Decision
     let o = operations::last(opens) + 1;
     operations::open(&mut *opens, o);
     contexts::hold(&mut *opens, row, v);
-    decisions::done(decisions::add_one(
-        messages::packet_of(Message::ContextRead(o, row)),
-    ))
+    decisions::done(decisions::add_one(messages::packet_of(Message::ContextRead(o, row))))
 }
 
 // A read of a whole context begins, with one packet to the switch.
@@ -110,12 +108,7 @@ pub fn begin_context(opens: &mut [u32; operations::CELLS], held: usize, x: Objec
     enter(&mut *opens, row, v)
 }
 
-pub fn lose(
-    opens: &mut [u32; operations::CELLS],
-    held: usize,
-    p: Packet,
-    at: usize,
-) -> Decision
+pub fn lose(opens: &mut [u32; operations::CELLS], held: usize, p: Packet, at: usize) -> Decision
     ensures { λ d. ⌜ (d ≡ lost (now (opens .entry)) held p at .decision) × (now (opens .exit) ≡ lost (now (opens .entry)) held p at .opens) ⌝ }
 {
     if held <= at {
@@ -140,12 +133,7 @@ fn copy(opens: &mut [u32; operations::CELLS], p: Packet) -> Decision
     decisions::done(decisions::add_one(messages::in_row(p, row)))
 }
 
-pub fn repeat(
-    opens: &mut [u32; operations::CELLS],
-    held: usize,
-    p: Packet,
-    at: usize,
-) -> Decision
+pub fn repeat(opens: &mut [u32; operations::CELLS], held: usize, p: Packet, at: usize) -> Decision
     ensures { λ d. ⌜ (d ≡ repeated (now (opens .entry)) held p at .decision) × (now (opens .exit) ≡ repeated (now (opens .entry)) held p at .opens) ⌝ }
 {
     if held <= at {

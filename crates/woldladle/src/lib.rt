@@ -5,7 +5,6 @@ ghost use Rattle.lines.specs.Text.{putIn};
 ghost use Rattle.waiting.specs.Waiting.{waitingList};
 ghost use Rattle.protocol.specs.Steps.{machine, after, steppedBy, startSwitch, startStore, startOpens};
 ghost use Rattle.sessions.specs.{sessionStarted, askedBy, sessionAfter};
-
 use sessions::Session;
 use waiting::Packet;
 

@@ -21,13 +21,13 @@ loop-holds : tie.Need-loop-holds Inv-loop μ-loop
 loop-holds c = (omega arith, c .size .ensures .0, c .size .ensures .1, below-none _)
 
 returns : tie.Need-returns Inv-loop μ-loop
-returns c = 
+returns c =
     let turn = c .before .before .before .before .loop in
     sym (numbers-fail _ _ (turn .i) (omega arith)
     (ap (isUnmarked _) (sym (c .before .before .place .ensures)) ∙ sym (c .before .is-unmarked .ensures) ∙ not-true (c .before .is-unmarked .result) (c .if1 .taken)))
 
 loop-again : tie.Need-loop-again Inv-loop μ-loop
-loop-again c = 
+loop-again c =
     let turn = c .before .before .before .before .loop in (
       omega arith,
       turn .inv .1,
