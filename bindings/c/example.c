@@ -1,4 +1,4 @@
-/* A load generator's inner loop: writes object after object, reads each while its write is pending, and prints the model's lines. */
+/* A load generator's inner loop: writes object after object, reads each while its write is pending, and prints the model's lines. In the end it reads two objects at once. */
 #include "woldladle.h"
 #include <stdio.h>
 
@@ -13,12 +13,28 @@ static void print_line(void) {
         printf("read %u %s the pending write\n", (unsigned)s->operation, s->freshness == WOLDLADLE_OLD ? "overtook" : "came after");
 }
 
+static uint8_t step_of(const uint8_t *record, size_t length) {
+    uint8_t refusal = woldladle_model_step(&model, record, length);
+    print_line();
+    return refusal;
+}
+
 static uint8_t step(uint8_t tag, uint32_t first, uint32_t second) {
     uint8_t record[WOLDLADLE_LONGEST_RECORD];
     woldladle_write_record(tag, first, second, record, sizeof record);
-    uint8_t refusal = woldladle_model_step(&model, record, woldladle_record_length(tag));
-    print_line();
-    return refusal;
+    return step_of(record, woldladle_record_length(tag));
+}
+
+/* Reads several objects at once, and prints the value of each. */
+static void read_context(const uint16_t *objects, size_t count) {
+    const struct woldladle_session *s = &model.session;
+    uint8_t record[WOLDLADLE_LONGEST_RECORD];
+    woldladle_write_context(objects, count, record, sizeof record);
+    step_of(record, 3 + 2 * count);
+    while (s->waiting > 0)
+        step(3, 0, 0);
+    for (uint32_t i = 0; i < s->count; i++)
+        printf("read %u found %u in object %u\n", (unsigned)s->operation, (unsigned)s->values[i], (unsigned)objects[i]);
 }
 
 int main(void) {
@@ -35,5 +51,6 @@ int main(void) {
             step(3, 0, 0); /* deliver the oldest packet */
         printf("replica 1 holds %u of object %u\n", (unsigned)woldladle_value(model.store, 1, object), (unsigned)object);
     }
+    read_context((const uint16_t[]){7, 5}, 2);
     return step(1, 1024, 0) == 3 ? 0 : 1; /* refused: no such object */
 }

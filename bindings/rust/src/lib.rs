@@ -14,7 +14,7 @@ pub const OUTPUT_ROOM: usize = 2_359_296;
 /// The most objects that one read names.
 pub const LONGEST_CONTEXT: usize = 8;
 
-/// What a step answers; a refusal is document 01's number.
+/// What a step answers; a refusal is the number that document 01 or 02 gives it.
 #[derive(Clone, Copy, Debug, PartialEq, Eq)]
 pub enum Answer {
     Done,
@@ -26,8 +26,8 @@ pub enum Answer {
     Refused(u8),
 }
 
-/// The values of a finished operation: one, or for a read of a whole context one
-/// for each object, in the order given.
+/// The values of a finished operation, as a slice: one, or for a read of a whole
+/// context one for each object, in the order given.
 #[derive(Clone, Copy, PartialEq, Eq)]
 pub struct Values {
     count: u32,
@@ -35,7 +35,7 @@ pub struct Values {
 }
 
 impl Values {
-    /// At most eight values.
+    /// These values, of which there are at most eight; it panics at more.
     pub fn of(values: &[u32]) -> Values {
         let mut places = [0; LONGEST_CONTEXT];
         places[..values.len()].copy_from_slice(values);
@@ -63,7 +63,7 @@ impl std::fmt::Debug for Values {
 
 /// What a finished read says, if its object had a counting mark when the switch
 /// sent it to the tail: `Old` if the stamp of its value is below the mark's, `New`
-/// if not. `None` for every other read, and for a write.
+/// if not. `None` for every other read, that of a whole context too, and for a write.
 #[derive(Clone, Copy, Debug, PartialEq, Eq)]
 pub enum Freshness {
     None,
@@ -231,7 +231,9 @@ impl Model {
 }
 
 /// Writes the record of a tag with its numbers, 0 for one that it does not
-/// have, at the start of `out`: how many bytes it has, or refusal 1 or 15.
+/// have, at the start of `out`: how many bytes it has, or refusal 1 where no such
+/// record exists (tag 11 has `write_context`), or 15. A refusal leaves `out` as it
+/// was.
 #[inline]
 pub fn write_record(tag: u8, first: u32, second: u32, out: &mut [u8]) -> Result<usize, u8> {
     let (to, room) = (out.as_mut_ptr(), out.len());
@@ -241,8 +243,10 @@ pub fn write_record(tag: u8, first: u32, second: u32, out: &mut [u8]) -> Result<
     }
 }
 
-/// Writes the record of a read of a whole context at the start of `out`: how many
-/// bytes it has, or refusal 1 where there are not 2 to 8 objects, or 15.
+/// Writes the record of a read of a whole context (tag 11) at the start of `out`:
+/// how many bytes it has, or refusal 1 where there are not 2 to 8 objects, or 15. A
+/// refusal leaves `out` as it was. Any objects are written: the step refuses those
+/// that it does not allow.
 #[inline]
 pub fn write_context(objects: &[u16], out: &mut [u8]) -> Result<usize, u8> {
     let (to, room) = (out.as_mut_ptr(), out.len());
@@ -253,8 +257,8 @@ pub fn write_context(objects: &[u16], out: &mut [u8]) -> Result<usize, u8> {
     }
 }
 
-/// How many bytes the record of a tag has, 0 for an unknown tag and for that of a
-/// read of a whole context, which has no fixed length.
+/// How many bytes the record of a tag has, 0 for an unknown tag and for tag 11,
+/// whose record has no fixed length.
 #[inline]
 pub fn record_length(tag: u8) -> usize {
     usize::from(unsafe { raw::woldladle_record_length(tag) })
@@ -272,6 +276,7 @@ mod tests {
     use super::*;
 
     const BEGIN_A_READ: [u8; 5] = [1, 0, 2, 0, 5];
+    const DELIVER: [u8; 6] = [3, 0, 3, 0, 0, 0];
 
     #[test]
     fn fewer_than_64_places_are_refused_by_15() {
@@ -292,6 +297,8 @@ mod tests {
         let mut model = Model::start(2).expect("two");
         let before = model.bytes();
         let no_such_object = [1, 0, 2, 255, 255];
+        let one_object = [11, 0, 2, 4, 0];
+        let named_twice = [11, 0, 4, 0, 5, 0, 5];
         for (record, places, refusal) in [
             (&[][..], 63, 1),
             (&[32, 0, 1, 2], 63, 1),
@@ -299,6 +306,9 @@ mod tests {
             (&[1, 0, 2, 0, 5, 0], 0, 1),
             (&no_such_object, 63, 15),
             (&no_such_object, 64, 3),
+            (&one_object, 63, 1),
+            (&named_twice, 63, 15),
+            (&named_twice, 64, 16),
         ] {
             assert_eq!(model.step_within(places, record), Answer::Refused(refusal));
             assert!(model.bytes() == before, "{record:?}");
@@ -309,5 +319,110 @@ mod tests {
     fn structs_have_the_sizes_of_the_header() {
         assert_eq!(size_of::<Session>(), 64);
         assert_eq!(size_of::<Packet>(), 24);
+    }
+
+    /// Takes a read of these objects to its end, with a lone replica.
+    fn read(model: &mut Model, objects: &[u16]) -> Answer {
+        let mut record = [0; LONGEST_RECORD];
+        let size = write_context(objects, &mut record).expect("a record");
+        assert_eq!(model.step(&record[..size]), Answer::Done);
+        assert_eq!(model.step(&DELIVER), Answer::Done);
+        assert_eq!(model.step(&DELIVER), Answer::Done);
+        model.step(&DELIVER)
+    }
+
+    /// How many values the session has, and its eight places for them.
+    fn noted(model: &Model) -> (u32, [u32; 8]) {
+        (model.0.session.count, model.0.session.values)
+    }
+
+    #[test]
+    fn a_session_has_its_values_and_0_behind_them() {
+        let mut model = Model::start(1).expect("one");
+        for object in 1..=8 {
+            let write = [2, 0, 6, 0, object, 0, 0, 0, 10 * object];
+            assert_eq!(model.step(&write), Answer::Done);
+            assert_eq!(model.step(&DELIVER), Answer::Done);
+            assert_eq!(model.step(&DELIVER), Answer::Done);
+            assert_ne!(model.step(&DELIVER), Answer::Done);
+            let value = 10 * u32::from(object);
+            assert_eq!(noted(&model), (1, [value, 0, 0, 0, 0, 0, 0, 0]));
+            assert_eq!(model.step(&DELIVER), Answer::Done);
+            assert_eq!(noted(&model), (0, [0; 8]));
+        }
+        for (objects, values) in [
+            (&[8, 1][..], [80, 10, 0, 0, 0, 0, 0, 0]),
+            (&[8, 7, 6, 5, 4, 3, 2, 1], [80, 70, 60, 50, 40, 30, 20, 10]),
+            (&[3, 100, 4], [30, 0, 40, 0, 0, 0, 0, 0]),
+            (&[7, 6, 5, 4, 3, 2, 1], [70, 60, 50, 40, 30, 20, 10, 0]),
+        ] {
+            let answer = read(&mut model, objects);
+            assert_eq!(noted(&model), (objects.len() as u32, values));
+            let Answer::Finished { values: found, .. } = answer else {
+                panic!("{answer:?}");
+            };
+            assert_eq!(*found, values[..objects.len()]);
+            assert_eq!(model.step(&DELIVER), Answer::Refused(7));
+            assert_eq!(noted(&model), (0, [0; 8]));
+        }
+    }
+
+    /// The line of record 5, with 2 packets and 1 mark, from these fields.
+    fn line_of(operation: u32, count: u32, freshness: u32) -> String {
+        let mut model = Model::start(1).expect("one");
+        model.0.session = Session {
+            refusal: 0,
+            operation,
+            count,
+            values: [7, 0, 50, 4, 3, 2, 1, u32::MAX],
+            freshness,
+            marks: 1,
+            waiting: 2,
+        };
+        let mut out = [0; LONGEST_LINE];
+        let size = model.line(5, &mut out);
+        String::from_utf8_lossy(&out[..size]).into_owned()
+    }
+
+    #[test]
+    fn every_count_has_a_line() {
+        for (operation, count, freshness, end) in [
+            (0, 0, 0, "- - -"),
+            (0, 3, 1, "- - -"),
+            (9, 0, 1, "9 7 old"),
+            (9, 1, 2, "9 7 new"),
+            (9, 1, 3, "9 7 -"),
+            (9, 2, 0, "9 7,0 -"),
+            (9, 3, 1, "9 7,0,50 -"),
+            (9, 7, 2, "9 7,0,50,4,3,2,1 -"),
+            (9, 8, 0, "9 7,0,50,4,3,2,1,4294967295 -"),
+            (9, 9, 0, "9 7,0,50,4,3,2,1,4294967295 -"),
+            (9, u32::MAX, 0, "9 7,0,50,4,3,2,1,4294967295 -"),
+        ] {
+            let line = line_of(operation, count, freshness);
+            assert_eq!(line, format!("5 ok 2 1 {end}\n"));
+        }
+    }
+
+    #[test]
+    fn the_longest_line_has_room() {
+        let mut model = Model::start(1).expect("one");
+        model.0.session = Session {
+            refusal: 0,
+            operation: u32::MAX,
+            count: 8,
+            values: [u32::MAX; 8],
+            freshness: 0,
+            marks: u32::MAX,
+            waiting: usize::MAX,
+        };
+        let eight = ["4294967295"; 8].join(",");
+        let line = format!("4294967295 ok 64 4294967295 4294967295 {eight} -\n");
+        assert!(line.len() <= LONGEST_LINE);
+        let mut out = vec![0xaa; line.len() + 1];
+        assert_eq!(model.line(u32::MAX, &mut out[..line.len() - 1]), 0);
+        assert!(out.iter().all(|b| *b == 0xaa));
+        assert_eq!(model.line(u32::MAX, &mut out), line.len());
+        assert_eq!(out, [line.as_bytes(), &[0xaa]].concat());
     }
 }

@@ -1,11 +1,15 @@
 //! The two libraries from outside, in one program: the same lines as the second
 //! model, refusals that change nothing, and what a file of records cannot reach.
+//! Reads of several objects have a module of their own.
+
+#[path = "outside/contexts.rs"]
+mod contexts;
 
 use second_model::generate::{generate, Random, KINDS};
 use second_model::{records, run::output};
 use woldladle::{
-    record_length, run, write_record, Answer, Freshness, Model, LONGEST_LINE, LONGEST_RECORD,
-    OUTPUT_ROOM,
+    record_length, run, write_context, write_record, Answer, Freshness, Model, Values,
+    LONGEST_CONTEXT, LONGEST_LINE, LONGEST_RECORD, OUTPUT_ROOM,
 };
 
 /// The lines of a file, record by record through the library; a run that ends
@@ -71,17 +75,27 @@ fn a_short_buffer_takes_whole_lines_only() {
     }
 }
 
-/// Random bytes, random fields, or a step that may be accepted.
-fn random_record(random: &mut Random) -> Vec<u8> {
-    let mut record = vec![0; LONGEST_RECORD];
-    let tag = random.within(0, 11) as u8;
+/// Writes a record of any tag, with small fields or large ones.
+fn random_fields(random: &mut Random, record: &mut [u8]) -> Result<usize, u8> {
+    let tag = random.within(0, 12) as u8;
     let (most, count) = if random.chance(500) {
         (8, 3)
     } else {
         (2048, 300)
     };
+    if tag == 11 {
+        let objects = 0..random.within(0, LONGEST_CONTEXT + 1);
+        let objects: Vec<u16> = objects.map(|_| random.below(most) as u16).collect();
+        return write_context(&objects, record);
+    }
     let numbers = (random.below(most) as u32, random.below(count) as u32);
-    match write_record(tag, numbers.0, numbers.1, &mut record) {
+    write_record(tag, numbers.0, numbers.1, record)
+}
+
+/// Random bytes, random fields, or a step that may be accepted.
+fn random_record(random: &mut Random) -> Vec<u8> {
+    let mut record = vec![0; LONGEST_RECORD];
+    match random_fields(random, &mut record) {
         Ok(size) if random.chance(950) => record.truncate(size),
         _ => {
             record.truncate(random.below(LONGEST_RECORD + 1));
