@@ -1,16 +1,16 @@
 -- What stands in each row after a context is held in one, after one is freed, and after a change elsewhere.
-use mathlib.Core.Path.{_≡_, refl, sym, ap, _∙_}
-use mathlib.Core.List.{List, [], _∷_, map}
+use mathlib.Core.Path.{_≡_, refl, sym, ap, _∙_, subst}
+use mathlib.Core.List.{List, [], _∷_, map, List·Memᴰ}
 use Prim.Native.Nat.{ℕ, zero, suc, _+_, _*_, _%_, _≤_, _<_}
 use native.Mathlib.Omega.{arith}
 use lib.ListN.{length, getD, set, length-set}
 use lib.Seq.{getD-set-same, getD-set-other}
 use Rattle.limits.specs as limits
 use Rattle.lists.specs.{indexOf, listOf}
-use Rattle.lists.proofs.Index.{index-first, index-none, index-at}
+use Rattle.lists.proofs.Index.{index-first, index-none, index-at, in-index, at-in}
 use Rattle.lists.proofs.Places.{length-listOf, getD-listOf}
-use Rattle.operations.specs.{openCells, opening, closing}
-use Rattle.operations.proofs.Laws.{SizedOpens}
+use Rattle.operations.specs.{openCells, noneOpen, opening, closing}
+use Rattle.operations.proofs.Laws.{SizedOpens, zeros}
 use Rattle.operations.proofs.Behind.{SameOpens, opening-behind, closing-behind}
 use Rattle.contexts.specs.declared.Context.{Context}
 use Rattle.contexts.specs.{context, placesOf, placeOf, numbersOf, keptAt, mapped, rowCell, sizeAt, numberAt, contextAt, freeRow, puts, holding, freeing}
@@ -146,6 +146,11 @@ module _ (l : List ℕ) (r : ℕ) where
   freed-apart q n =
       context-same l (freeing l r) q (λ j a b. freed-other j (λ e. rows-apart r q j n a b (omega (arith, e), omega (arith, e))))
 
+  -- it has no numbers, under whatever number it is named
+  pub freed-size : SizedOpens l → (q : ℕ) → r % limits.contexts ≡ q % limits.contexts → sizeAt (freeing l r) q ≡ 0
+  unfolding freeing sizeAt rowCell
+  freed-size z q e = ap (λ (k : ℕ). getD (set l (66 + r % 64 * 9) 0) (66 + k * 9) 0) (sym e) ∙ getD-set-same l (66 + r % 64 * 9) 0 0 (omega (arith, z))
+
   pub opens-freeing : SameOpens l (freeing l r)
   opens-freeing = record { cells = λ j h. freed-other j (λ e. omega (arith, e, h, row-behind r)) }
 
@@ -180,3 +185,15 @@ same-row l r q e = ap (λ (k : ℕ). getD l (66 + k * 9) 0) (sym e)
 -- a row that is not free is not the first free one
 pub free-apart : (l : List ℕ) (q : ℕ) → freeRow l < 64 → (sizeAt l q ≡ 0 → ⊥) → Apart (freeRow l) q
 free-apart l q h n e = n (same-row l (freeRow l) q e ∙ free-is-free l h)
+
+-- before the first step every row is free
+pub size-none : (r : ℕ) → sizeAt noneOpen r ≡ 0
+unfolding sizeAt noneOpen
+size-none r = zeros openCells (rowCell r)
+
+-- where there is no free row, every row is in use
+pub free-none-left : (l : List ℕ) → 64 ≤ freeRow l → (r : ℕ) → r < 64 → sizeAt l r ≡ 0 → ⊥
+unfolding freeRow
+free-none-left l none r h e =
+    omega (arith, none, length-listOf (sizeAt l) 64, in-index (listOf (sizeAt l) 64) 0
+    (subst (λ (x : ℕ). List·Memᴰ x (listOf (sizeAt l) 64)) (getD-listOf (sizeAt l) 64 r h ∙ e) (at-in (listOf (sizeAt l) 64) r 0 (omega (arith, h, length-listOf (sizeAt l) 64)))))

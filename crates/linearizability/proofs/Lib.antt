@@ -16,4 +16,5 @@ pub mod Listing
 pub mod Limits
 pub mod Opens
 pub mod Runs
+pub mod Rows
 pub mod Freshness

@@ -336,7 +336,7 @@ full-step m wide x small left step (inr e) =
     rw (e .1, le-ltb (length (m .waiting .packets)) limits.waiting wide) (full-begin (givenBy m) true x (e .0) small left)
 
 -- the row of places stays as long as it is
-length-reached : (m : Machine) (xs : List Step) → length (reached m xs .waiting .packets) ≡ length (m .waiting .packets)
+pub length-reached : (m : Machine) (xs : List Step) → length (reached m xs .waiting .packets) ≡ length (m .waiting .packets)
 unfolding after
 length-reached m [] = refl
 length-reached m (x ∷ xs) = length-reached (after m x) xs ∙ length-edited (m .waiting) (outcomeOf m x .decision .edit)

@@ -241,7 +241,7 @@ asks-not p e o =
     (both P (eqb (p .kind) 8) (λ a. a) (both P (eqb (p .kind) 9) (λ a. a) (both P (eqb (p .kind) 10) (λ a. a) (both P (eqb (p .kind) 11) (λ a. a) (λ a. a)))))))))))
 
 -- nor one that names a row, unless it is of a context
-names-not : (p : Packet) → isOfContext p ≡ false → (r : ℕ) → Names (messageOf p) r → ⊥
+pub names-not : (p : Packet) → isOfContext p ≡ false → (r : ℕ) → Names (messageOf p) r → ⊥
 unfolding isOfContext messageOf contextMessage
 names-not p e r =
     let P : Message → Type 0 = λ q. Names q r → ⊥ in

@@ -93,14 +93,14 @@ at-position w at r h = record {
 pub edited-nothing : (w : WaitingList) → edited w noEdit ≡ w
 edited-nothing w = edited-none w noEdit refl refl
 
-taking : (w : WaitingList) (e : Edit) → Roomy w → e .take ≡ true → e .at < held w → e .add ≤ 2 → held w - 1 + e .add ≤ limits.waiting
+pub taking : (w : WaitingList) (e : Edit) → Roomy w → e .take ≡ true → e .at < held w → e .add ≤ 2 → held w - 1 + e .add ≤ limits.waiting
     → messages (edited w e) ≡ (front (e .at) w ++ back (e .at) w) ++ map messageOf (added e)
 taking w e r t h most k =
     ap (map messageOf) (waits-edited-taking w e r t h most k)
     ∙ map-append messageOf (without (waits w) (e .at)) (added e)
     ∙ ap (λ (l : List Message). l ++ map messageOf (added e)) (map-without messageOf (waits w) (e .at))
 
-keeping : (w : WaitingList) (e : Edit) → Roomy w → Exact w → e .take ≡ false → e .add ≤ 2 → held w + e .add ≤ limits.waiting
+pub keeping : (w : WaitingList) (e : Edit) → Roomy w → Exact w → e .take ≡ false → e .add ≤ 2 → held w + e .add ≤ limits.waiting
     → messages (edited w e) ≡ messages w ++ map messageOf (added e)
 keeping w e r x t most k = ap (map messageOf) (waits-edited-keeping w e r x t most k) ∙ map-append messageOf (waits w) (added e)
 

@@ -8,7 +8,7 @@ use native.Mathlib.Omega.{arith}
 use lib.Dec.{leb, ltb}
 use lib.ListN.{length, getD, set, take, length-take, length-set}
 use lib.Seq.{getD-take, take-suc-set}
-use borrow.Author.Tests.{leb-true, leb-false, lt-ltb, le-ltb, le-leb}
+use borrow.Author.Tests.{lt-leb, leb-true, leb-false, lt-ltb, le-ltb, le-leb}
 use Rattle.limits.specs as limits
 use Rattle.lists.specs.{moves, without}
 use Rattle.lists.proofs.Closing.{length-moves, take-moves}
@@ -118,6 +118,23 @@ after-one w e t h = rw (takes-one (w .count) e t h)
 adds-none : (l : List Packet) (k : ℕ) (e : Edit) → e .add ≡ 0 → adding l k e ≡ l
 unfolding adding
 adds-none l k e n = rw n
+
+-- an edit after which more than 64 packets would wait changes nothing
+fits-over : (length left add : ℕ) → limits.waiting < left + add → fits length left add ≡ false
+unfolding fits
+fits-over length left add h = go (ltb length limits.waiting)
+  where
+    go : (b : Bool) → cond b false (leb (left + add) limits.waiting) ≡ false
+    go true = refl
+    go false = lt-leb (left + add) limits.waiting h
+
+pub edited-over : (w : WaitingList) (e : Edit) → Exact w → e .take ≡ false → limits.waiting < held w + e .add → edited w e ≡ w
+edited-over w e x t h =
+    edited-not w e (fits-over (length (w .packets)) (leftBy (w .count) e) (e .add) (omega (arith, h, left-all (w .count) e t, exact-held w x)))
+
+pub edited-over-taking : (w : WaitingList) (e : Edit) → e .take ≡ true → e .at < held w → limits.waiting < held w - 1 + e .add → edited w e ≡ w
+edited-over-taking w e t k h =
+    edited-not w e (fits-over (length (w .packets)) (leftBy (w .count) e) (e .add) (omega (arith, h, left-one (w .count) e t k)))
 
 -- an edit that takes no packet out and adds none changes nothing
 pub edited-none : (w : WaitingList) (e : Edit) → e .take ≡ false → e .add ≡ 0 → edited w e ≡ w
