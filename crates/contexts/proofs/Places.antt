@@ -1,9 +1,8 @@
 -- The numbers of a context by their places, and what the loops over them find.
 use mathlib.Core.Path.{_≡_, refl, sym, ap, _∙_}
 use mathlib.Core.Bool.{Bool, true, false, cond}
-use mathlib.Core.List.{List, [], _∷_, map, List·Memᴰ}
-use Prim.Native.Nat.{ℕ, zero, suc, _+_, _≤_, _<_}
-use native.Mathlib.Nat.{not-suc-le-zero, le-of-suc-le-suc}
+use mathlib.Core.List.{List, _∷_, map, List·Memᴰ}
+use Prim.Native.Nat.{ℕ, zero, suc, _≤_, _<_}
 use native.Mathlib.Omega.{arith}
 use lib.Dec.{leb}
 use lib.ListN.{length, getD}
@@ -14,7 +13,7 @@ use Rattle.lists.proofs.Index.{index-first, index-none}
 use Rattle.lists.proofs.Places.{length-listOf, getD-listOf, listOf-same}
 use Rattle.contexts.specs.declared.Context.{Context}
 use Rattle.contexts.specs.declared.Objects.{Objects}
-use Rattle.contexts.specs.{placesOf, placeOf, sizeOf, numbersOf, keptAt, mapped, isObject, areObjects, standsFirst, areDifferent, isCount, emptyAt, isNaming}
+use Rattle.contexts.specs.{placeOf, sizeOf, numbersOf, keptAt, mapped, isObject, areObjects, standsFirst, areDifferent, isCount, emptyAt, isNaming}
 
 pub size-most : (v : Context) → sizeOf v ≤ 8
 unfolding sizeOf

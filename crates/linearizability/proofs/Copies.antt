@@ -7,7 +7,6 @@ use native.Mathlib.Omega.{arith}
 use lib.Dec.{eqb, leb, ltb}
 use borrow.Author.Tests.{ne-eqb, ltb-false, leb-true, eqb-false}
 use Rattle.history.specs.History.{_∈_, reads, History, begun}
-use Rattle.history.proofs.Tests.{by-test}
 use Rattle.history.proofs.Entries.{Entry}
 use Rattle.store.specs.declared.Write.{Write}
 use Rattle.waiting.specs.declared.Packet.{Packet}

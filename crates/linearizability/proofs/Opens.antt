@@ -21,7 +21,7 @@ use Rattle.history.proofs.Entries.{Entry}
 use Rattle.operations.specs.{openCount, isOpen, lastGiven, roomToOpen, noneOpen, opening, closing}
 use Rattle.operations.proofs.Behind.{SameOpens, same-self, same-count, same-open}
 use Rattle.contexts.specs.declared.Objects.{Objects}
-use Rattle.contexts.specs.{contextOf, numbersOf, areObjects, areDifferent, isCount, isContext, contextAt, freeRow}
+use Rattle.contexts.specs.{contextOf, numbersOf, areObjects, areDifferent, isNaming, isCount, isContext, contextAt, freeRow}
 use Rattle.contexts.proofs.Rows.{opens-holding, opens-freeing}
 use Rattle.operations.proofs.Laws.{count-none, none-open, count-opening, opened-now, still-open, open-before, room-below, full-count, count-closing, others-stay-open, open-after-closing}
 use Rattle.switch.specs.Numbers.{numberIn, directIn}
@@ -302,13 +302,19 @@ same-reached {m} {h} g {l} s (x ∷ xs) = same-reached (good-after g x) (same-ch
 
 -- ---- a begin while 64 are open
 
--- the step begins an operation on object x
-abbrev pub BeginsOn : ℕ → Step → Type 0
-BeginsOn x step = (step ≡ BeginRead x) ⊎ ((v : ℕ) × (step ≡ BeginWrite x v))
+-- the step begins an operation that neither 1 nor 3 nor 16 refuses
+pub data Begins : Step → Type 0 where
+  reading : (x : ℕ) → x < limits.objects → Begins (BeginRead x)
+  writing : (x v : ℕ) → x < limits.objects → Begins (BeginWrite x v)
+  reading-context : (x : Objects) → isNaming x ≡ true → areObjects (contextOf x) ≡ true → areDifferent (contextOf x) ≡ true → Begins (BeginContext x)
 
 -- an outcome that is refusal 5 exactly when 64 are open
 abbrev FullExactly : List ℕ → Outcome → Type 0
 FullExactly cells u = (u .decision .answer ≡ Refused OpenFull) ↔ (openCount cells ≡ limits.openOperations)
+
+-- with room it is not
+not-full : (cells : List ℕ) {A : Type 0} → roomToOpen cells ≡ true → (A → ⊥) → A ↔ (openCount cells ≡ limits.openOperations)
+not-full cells room n = (λ e. absurd (n e), λ e. absurd (omega (arith, e, room-below cells room)))
 
 full-begin : (g : Given) (isWrite : Bool) (x v : ℕ) → x < limits.objects → lastGiven (g .opens) < limits.lastOperation
     → FullExactly (g .opens) (changingOpens g (beginOperation (g .opens) (g .held) isWrite x v))
@@ -317,23 +323,36 @@ full-begin g isWrite x v small left =
     rw (lt-leb limits.objects x small, lt-leb limits.lastOperation (lastGiven (g .opens)) left)
     (by-test P (roomToOpen (g .opens)) _ _
     (λ room. both P (overfull (g .held) 0 1)
-    (not-full room (λ e. let z : _≡_ {A = ℕ} 0 1 = cc in omega arith))
-    (not-full room (λ e. let z : _≡_ {A = ℕ} 0 1 = cc in omega arith)))
+    (not-full (g .opens) room (λ e. let z : _≡_ {A = ℕ} 0 1 = cc in omega arith))
+    (not-full (g .opens) room (λ e. let z : _≡_ {A = ℕ} 0 1 = cc in omega arith)))
     (λ full. (λ e. full-count (g .opens) full, λ e. refl)))
   where
     P : Opened → Type 0
     P u = FullExactly (g .opens) (changingOpens g u)
 
-    not-full : {A : Type 0} → roomToOpen (g .opens) ≡ true → (A → ⊥) → A ↔ (openCount (g .opens) ≡ limits.openOperations)
-    not-full room n = (λ e. absurd (n e), λ e. absurd (omega (arith, e, room-below (g .opens) room)))
+full-context : (g : Given) (x : Objects) → areObjects (contextOf x) ≡ true → areDifferent (contextOf x) ≡ true → lastGiven (g .opens) < limits.lastOperation
+    → FullExactly (g .opens) (changingOpens g (beginContext (g .opens) (g .held) x))
+unfolding beginContext refusing
+full-context g x known different left =
+    rw (known, different, lt-leb limits.lastOperation (lastGiven (g .opens)) left)
+    (by-test P (roomToOpen (g .opens)) _ _
+    (λ room. both P (overfull (g .held) 0 1)
+    (not-full (g .opens) room (λ e. let z : _≡_ {A = ℕ} 0 1 = cc in omega arith))
+    (both P (ltb (freeRow (g .opens)) limits.contexts)
+    (not-full (g .opens) room (λ e. let z : _≡_ {A = ℕ} 0 1 = cc in omega arith))
+    (not-full (g .opens) room (λ e. let z : _≡_ {A = ℕ} 0 1 = cc in omega arith))))
+    (λ full. (λ e. full-count (g .opens) full, λ e. refl)))
+  where
+    P : Opened → Type 0
+    P u = FullExactly (g .opens) (changingOpens g u)
 
-full-step : (m : Machine) → limits.waiting ≤ length (m .waiting .packets) → (x : ℕ) → x < limits.objects → lastGiven (m .opens) < limits.lastOperation → (step : Step)
-    → BeginsOn x step → FullExactly (m .opens) (outcomeOf m step)
+full-step : (m : Machine) → limits.waiting ≤ length (m .waiting .packets) → lastGiven (m .opens) < limits.lastOperation → {step : Step} → Begins step
+    → FullExactly (m .opens) (outcomeOf m step)
 unfolding decidedIn decided isMalformed
-full-step m wide x small left step (inl e) =
-    rw (e, le-ltb (length (m .waiting .packets)) limits.waiting wide) (full-begin (givenBy m) false x 0 small left)
-full-step m wide x small left step (inr e) =
-    rw (e .1, le-ltb (length (m .waiting .packets)) limits.waiting wide) (full-begin (givenBy m) true x (e .0) small left)
+full-step m wide left (reading x small) = rw (le-ltb (length (m .waiting .packets)) limits.waiting wide) (full-begin (givenBy m) false x 0 small left)
+full-step m wide left (writing x v small) = rw (le-ltb (length (m .waiting .packets)) limits.waiting wide) (full-begin (givenBy m) true x v small left)
+full-step m wide left (reading-context x named known different) =
+    rw (named, le-ltb (length (m .waiting .packets)) limits.waiting wide) (full-context (givenBy m) x known different left)
 
 -- the row of places stays as long as it is
 pub length-reached : (m : Machine) (xs : List Step) → length (reached m xs .waiting .packets) ≡ length (m .waiting .packets)
@@ -355,11 +374,11 @@ module _ (n : ℕ) (low : 1 ≤ n) (high : n ≤ 8) (row : List Packet) (xs : Li
   pub open-exactly : (o : ℕ) → (isOpen (machineOf n row xs .opens) o ≡ true) ↔ (o ∈ openOf n row xs)
   open-exactly o = (same-run .listed o, same-run .kept o)
 
-  -- 'at most 64 are open': with 64 lent places, a begin that neither 3 (its object) nor 4 (65,535 operations) refuses is refused with 5 exactly when 64 are open
-  pub full-exactly : 64 ≤ length row → (x : ℕ) → x < 1024 → begunCount (historyOf n row xs) < 65535 → (step : Step) → BeginsOn x step
+  -- 'at most 64 are open': with 64 lent places, a begin that neither 1, 3 and 16 (its objects) nor 4 (65,535 operations) refuses is refused with 5 exactly when 64 are open
+  pub full-exactly : 64 ≤ length row → begunCount (historyOf n row xs) < 65535 → {step : Step} → Begins step
       → (answerTo (machineOf n row xs) step ≡ Refused OpenFull) ↔ (length (openOf n row xs) ≡ 64)
   unfolding answerTo started noneWait
-  full-exactly wide x small left step b =
+  full-exactly wide left {step} b =
       let m = machineOf n row xs in
       subst (λ (k : ℕ). (answerTo m step ≡ Refused OpenFull) ↔ (k ≡ 64)) open-counted
-      (full-step m (rw (length-reached (started n row) xs) wide) x small (rw (good-run n low high row xs .books .numbered) left) step b)
+      (full-step m (rw (length-reached (started n row) xs) wide) (rw (good-run n low high row xs .books .numbered) left) b)

@@ -1,22 +1,22 @@
 -- In every run each row in use is named by a waiting packet: so while fewer than 64 packets wait there is a free row, and no read of a whole context is turned down for want of
 -- one.
 use mathlib.Core.Path.{_≡_, refl, sym, ap, _∙_, subst}
-use mathlib.Core.Bool.{Bool, true, false, cond, not}
+use mathlib.Core.Bool.{Bool, true, false, not}
 use mathlib.Core.List.{List, [], _∷_, _++_, map}
 use mathlib.Core.Logic.{_⊎_, inl, inr, _≢_}
 use Prim.Native.Nat.{ℕ, zero, suc, _+_, _-_, _%_, _≤_, _<_}
 use native.Mathlib.Decide.{ℕ-discrete, decLt}
 use native.Mathlib.Omega.{arith}
 use lib.Dec.{eqb, leb, ltb}
-use lib.ListN.{length, length-append, length-map}
-use borrow.Author.Tests.{leb-false, ltb-true, ltb-false}
+use lib.ListN.{length, length-append}
+use borrow.Author.Tests.{leb-false, ltb-false}
 use Rattle.limits.specs as limits
 use Rattle.history.specs.History.{_∈_, History}
-use Rattle.history.proofs.Lists.{here, no-member, in-left, in-right, in-insert, cases-cons, cases-insert, cut-at}
+use Rattle.history.proofs.Lists.{here, in-left, in-right, cases-insert, cut-at}
 use Rattle.history.proofs.Tests.{by-test}
 use Rattle.history.proofs.Entries.{Entry}
-use Rattle.operations.specs.{lastGiven, noneOpen, isOpen, roomToOpen, opening, closing}
-use Rattle.operations.proofs.Laws.{SizedOpens, sized-opening, sized-closing}
+use Rattle.operations.specs.{lastGiven, isOpen, roomToOpen, opening, closing}
+use Rattle.operations.proofs.Laws.{SizedOpens, sized-closing}
 use Rattle.contexts.specs.declared.Context.{Context}
 use Rattle.contexts.specs.declared.Objects.{Objects}
 use Rattle.contexts.specs.{contextOf, mapped, areObjects, areDifferent, isCount, isContext, sizeAt, contextAt, freeRow, holding, freeing}
@@ -42,9 +42,9 @@ use Rattle.protocol.specs.Messages.{packetOf, messageOf, isUnstamped, isOfConte
 use Rattle.protocol.specs.Decisions.{Given, Outcome, Switched, Stored, Opened, switched, opened, keeping, changingSwitch, changingStore, changingOpens, noEdit, takeOut, takeOutAdd, addOne, deciding, refusing, dropping, passing, overfull}
 use Rattle.protocol.specs.Contexts.{released, leaving, droppingRow, goesDirectly, contextRead, answersContext, answeringContext, directContext, normalContext, contextReply}
 use Rattle.protocol.specs.Delivery.{stamping, unstampedWrite, switchRead, stampedWrite, directRead, normalRead, completion, reply, deliveredMessage}
-use Rattle.protocol.specs.Steps.{Machine, givenBy, outcomeOf, positionOf, isMalformed, asking, beginOperation, beginContext, delivered, lost, copied, repeated, advancing, replacing, telling, removing, givingUp, decided, decidedIn, after, started}
+use Rattle.protocol.specs.Steps.{Machine, givenBy, positionOf, isMalformed, asking, beginOperation, beginContext, delivered, lost, copied, repeated, advancing, replacing, telling, removing, givingUp, decided, decidedIn, after, started}
 use Rattle.linearizability.proofs.Packets.{Names}
-use Rattle.linearizability.proofs.Waits.{messages, message-packet, front, back, Stands, at-position, length-messages, room, taking, keeping as staying}
+use Rattle.linearizability.proofs.Waits.{messages, message-packet, front, back, at-position, length-messages, room, taking, keeping as staying}
 use Rattle.linearizability.proofs.Copies.{packet-family, family-names, family-only}
 use Rattle.linearizability.proofs.Invariant.{Good, done, refused-stays}
 use Rattle.linearizability.proofs.Deliveries.{both}

@@ -8,7 +8,6 @@ use lib.Dec.{ltb}
 use lib.ListN.{getD, set}
 use lib.Seq.{getD-set-other}
 use Rattle.limits.specs as limits
-use Rattle.lists.specs.{indexOf}
 use Rattle.lists.proofs.Places.{listOf-same}
 use Rattle.operations.specs.{openCount, openNumbers, lastGiven, openPlace, isOpen, roomToOpen, opening, closing}
 use Rattle.operations.proofs.Laws.{count-most, open-place, OpenOnce}

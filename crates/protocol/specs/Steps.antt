@@ -23,13 +23,12 @@ use Rattle.protocol.specs.declared.Answer.the-variants.{Done, Refused}
 use Rattle.protocol.specs.declared.Stepped.{Stepped}
 use Rattle.protocol.specs.declared.Message.{Message}
 use Rattle.protocol.specs.declared.Message.the-variants.{UnstampedWrite, SwitchRead, Completion, Reply, ContextRead}
-use Rattle.protocol.specs.declared.Decision.{Decision}
 use Rattle.protocol.specs.declared.Step.{Step}
 use Rattle.protocol.specs.declared.Step.the-variants.{Start, BeginRead, BeginWrite, Deliver, Lose, Repeat, Advance, Replace, Tell, Remove, GiveUp, BeginContext}
 use Rattle.protocol.specs.Answers.{noFreshness}
 use Rattle.protocol.specs.Messages.{packetOf, messageOf, isUnstamped, isOfContext, inRow}
 use Rattle.protocol.specs.Decisions.{Given, given, Outcome, Switched, Stored, Opened, switched, stored, opened, keeping, changingSwitch, changingStore, changingOpens}
-use Rattle.protocol.specs.Decisions.{deciding, noEdit, addOne, addTwo, refusing, dropping, overfull}
+use Rattle.protocol.specs.Decisions.{deciding, noEdit, addOne, addTwo, refusing, overfull}
 use Rattle.protocol.specs.Contexts.{leaving}
 use Rattle.protocol.specs.Delivery.{deliveredMessage}
 
