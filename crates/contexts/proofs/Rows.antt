@@ -195,5 +195,10 @@ size-none r = zeros openCells (rowCell r)
 pub free-none-left : (l : List ℕ) → 64 ≤ freeRow l → (r : ℕ) → r < 64 → sizeAt l r ≡ 0 → ⊥
 unfolding freeRow
 free-none-left l none r h e =
-    omega (arith, none, length-listOf (sizeAt l) 64, in-index (listOf (sizeAt l) 64) 0
-    (subst (λ (x : ℕ). List·Memᴰ x (listOf (sizeAt l) 64)) (getD-listOf (sizeAt l) 64 r h ∙ e) (at-in (listOf (sizeAt l) 64) r 0 (omega (arith, h, length-listOf (sizeAt l) 64)))))
+    omega (
+      arith,
+      none,
+      length-listOf (sizeAt l) 64,
+      in-index (listOf (sizeAt l) 64) 0
+          (subst (λ (x : ℕ). List·Memᴰ x (listOf (sizeAt l) 64)) (getD-listOf (sizeAt l) 64 r h ∙ e) (at-in (listOf (sizeAt l) 64) r 0 (omega (arith, h, length-listOf (sizeAt l) 64)))),
+    )

@@ -521,11 +521,11 @@ covers (suc n) l h c =
     let t = cut-at l i in
     let rest : List Message = t .0 ++ t .1 in
     let others : (r : ℕ) → r < n → NamedIn rest r = λ r b.
-        let (p, j, (k, named, is)) = c r (omega arith) in
-        elim (cases-insert (t .0) q (t .1) (subst (λ (m : List Message). p ∈ m) (t .2) j)) [
-          | inl e ↦ absurd (different n r b h (sym same ∙ ap (λ (v : ℕ). v % limits.contexts) (one-row q s k names (subst (λ (m : Message). Names m k) e named)) ∙ is))
-          | inr m ↦ (p, m, (k, named, is))
-        ] in
+    let (p, j, (k, named, is)) = c r (omega arith) in
+    elim (cases-insert (t .0) q (t .1) (subst (λ (m : List Message). p ∈ m) (t .2) j)) [
+      | inl e ↦ absurd (different n r b h (sym same ∙ ap (λ (v : ℕ). v % limits.contexts) (one-row q s k names (subst (λ (m : Message). Names m k) e named)) ∙ is))
+      | inr m ↦ (p, m, (k, named, is))
+    ] in
     omega (arith, covers n rest (omega arith) others, ap length (t .2), length-append (t .0) (q ∷ t .1), length-append (t .0) (t .1))
 
 -- FOR EVERY NUMBER OF REPLICAS FROM 1 TO 8, EVERY LENT ROW OF PLACES AND EVERY LIST OF STEPS, refused ones included: while fewer than 64 packets wait there is a free row
@@ -543,5 +543,9 @@ row-free n low high row wide xs few = go (decLt (freeRow (m .opens)) 64)
     go : Dec (freeRow (m .opens) < 64) → freeRow (m .opens) < 64
     go (yes free) = free
     go (no full) =
-        absurd (omega (arith, few, length-messages (m .waiting) (rw (length-reached (started n row) xs) wide),
-        covers 64 (messages (m .waiting)) (omega arith) (λ r b. covered r (free-none-left (m .opens) (omega (arith, full)) r b))))
+        absurd (omega (
+          arith,
+          few,
+          length-messages (m .waiting) (rw (length-reached (started n row) xs) wide),
+          covers 64 (messages (m .waiting)) (omega arith) (λ r b. covered r (free-none-left (m .opens) (omega (arith, full)) r b)),
+        ))
