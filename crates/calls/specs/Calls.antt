@@ -17,7 +17,7 @@ use Rattle.protocol.specs.declared.Step.{Step}
 use Rattle.protocol.specs.declared.Step.the-variants.{Start, BeginRead, BeginWrite, Deliver, Lose, Repeat, Advance, Replace, Tell, Remove, GiveUp, BeginContext}
 use Rattle.protocol.specs.Answers.{refusalNumber}
 use Rattle.records.specs.Records.{kindOfTag, contextKind, contentLength, writtenAt, bufferAfter, writtenRefusal}
-use Rattle.lines.specs.Lines.{lineOf, noLine}
+use Rattle.line_lengths.specs.Lines.{lineOf, noLine}
 
 -- ---- lines
 

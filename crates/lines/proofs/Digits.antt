@@ -6,7 +6,7 @@ use native.Mathlib.Nat.{add-suc, add-zero}
 use native.Mathlib.Omega.{arith}
 use lib.ListN.{length, set, take, drop, length-set, take-append-drop}
 use lib.Seq.{slice, slice-empty, slice-cons, take-set-le, drop-set-lt, take-set-lt, getD-set-same, take-take}
-use Rattle.lines.specs.Lines.{digits}
+use Rattle.line_lengths.specs.Lines.{digits}
 
 -- the first t bytes, of which those from place at up to at + left are still to be the digits of rest
 abbrev pub filled : ℕ → ℕ → ℕ → ℕ → List ℕ → List ℕ

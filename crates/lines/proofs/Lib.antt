@@ -1,4 +1,3 @@
+-- What the functions that put a line rest on.
 pub mod Digits
-pub mod Laws
-pub mod Numbers
 pub mod Text

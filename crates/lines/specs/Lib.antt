@@ -1,3 +1,2 @@
--- The lines that the run program prints.
-pub mod Lines
+-- Bytes in a lent buffer.
 pub mod Text

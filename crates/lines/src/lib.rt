@@ -5,7 +5,7 @@ ghost use Prim.Native.Nat.{_+_, _≤_};
 ghost use lib.ListN.{length};
 ghost use lib.Dec.{leb};
 ghost use Rattle.protocol.specs.declared.Answer.the-variants.{Done, Finished, FinishedContext};
-ghost use Rattle.lines.specs.Lines.{places, decimal, okStart, freshnessEnd, finishEnd, laterValue, joined, contextEnd, noLine, lineOf};
+ghost use Rattle.line_lengths.specs.Lines.{decimal, okStart, freshnessEnd, finishEnd, laterValue, joined, contextEnd, noLine, lineOf};
 ghost use Rattle.lines.specs.Text.{putIn, Puts};
 use contexts::Context;
 use limits::Freshness;
@@ -48,46 +48,12 @@ fn put_four(out: &mut [u8], at: usize, a: u8, b: u8, c: u8, d: u8) -> usize
     at + 4
 }
 
-// How many decimal digits a number has.
-fn digits_of(n: u32) -> usize
-    ensures { λ r. ⌜ (r ≡ places n) × (r ≤ 10) ⌝ }
-{
-    if n < 10 {
-        return 1;
-    }
-    if n < 100 {
-        return 2;
-    }
-    if n < 1000 {
-        return 3;
-    }
-    if n < 10000 {
-        return 4;
-    }
-    if n < 100000 {
-        return 5;
-    }
-    if n < 1000000 {
-        return 6;
-    }
-    if n < 10000000 {
-        return 7;
-    }
-    if n < 100000000 {
-        return 8;
-    }
-    if n < 1000000000 {
-        return 9;
-    }
-    10
-}
-
 // The digits are filled in from the last to the first.
 fn put_digits(out: &mut [u8], at: usize, n: u32) -> usize
     requires { ⌜ at + length (decimal n) ≤ length (now out) ⌝ }
     ensures { λ r. ⌜ Puts (now (out .entry)) at (decimal n) r (now (out .exit)) ⌝ }
 {
-    let k = digits_of(n);
+    let k = line_lengths::digits_of(n);
     let mut rest = n;
     let mut left = k;
     while 0 < left {
@@ -273,76 +239,6 @@ fn put_line(
     }
 }
 
-// ---- how long a line is
-
-fn ok_length(number: u32, waiting: u32, marks: u32) -> usize
-    ensures { λ r. ⌜ (r ≡ length (okStart number waiting marks)) × (r ≤ 36) ⌝ }
-{
-    digits_of(number) + digits_of(waiting) + digits_of(marks) + 6
-}
-
-fn no_length(number: u32, refusal: u8) -> usize
-    ensures { λ r. ⌜ r ≡ length (noLine number refusal) ⌝ }
-{
-    digits_of(number) + digits_of(refusal as u32) + 5
-}
-
-fn finish_length(operation: u32, value: u32, freshness: Freshness) -> usize
-    ensures { λ r. ⌜ (r ≡ length (finishEnd operation value freshness)) × (r ≤ 26) ⌝ }
-{
-    let digits = digits_of(operation) + digits_of(value);
-    if freshness == OLD {
-        return digits + 6;
-    }
-    if freshness == NEW {
-        return digits + 6;
-    }
-    digits + 4
-}
-
-fn later_length(n: u32, i: u32, value: u32) -> usize
-    ensures { λ r. ⌜ (r ≡ length (laterValue n i value)) × (r ≤ 11) ⌝ }
-{
-    if n <= i {
-        return 0;
-    }
-    digits_of(value) + 1
-}
-
-fn joined_length(v: Context) -> usize
-    ensures { λ r. ⌜ (r ≡ length (joined v)) × (r ≤ 87) ⌝ }
-{
-    digits_of(v.first)
-        + later_length(v.count, 1, v.second)
-        + later_length(v.count, 2, v.third)
-        + later_length(v.count, 3, v.fourth)
-        + later_length(v.count, 4, v.fifth)
-        + later_length(v.count, 5, v.sixth)
-        + later_length(v.count, 6, v.seventh)
-        + later_length(v.count, 7, v.eighth)
-}
-
-fn context_length(read: u32, v: Context) -> usize
-    ensures { λ r. ⌜ (r ≡ length (contextEnd read v)) × (r ≤ 101) ⌝ }
-{
-    digits_of(read) + joined_length(v) + 4
-}
-
-fn line_length(number: u32, answer: Answer, waiting: u32, marks: u32) -> usize
-    ensures { λ r. ⌜ r ≡ length (lineOf number answer waiting marks) ⌝ }
-{
-    match answer {
-        Answer::Done => ok_length(number, waiting, marks) + 6,
-        Answer::Finished(operation, value, freshness) => {
-            ok_length(number, waiting, marks) + finish_length(operation, value, freshness)
-        }
-        Answer::FinishedContext(read, v) => {
-            ok_length(number, waiting, marks) + context_length(read, v)
-        }
-        Answer::Refused(refusal) => no_length(number, answers::refusal_number(refusal)),
-    }
-}
-
 // Whether n bytes have room at a place of a buffer of this length.
 pub fn fits(length: usize, at: usize, n: usize) -> bool
     ensures { λ r. ⌜ r ≡ leb (at + n) length ⌝ }
@@ -368,7 +264,7 @@ pub fn put_answer(
     if fits(out.len(), at, LONGEST) {
         return put_line(&mut *out, at, number, answer, waiting, marks) - at;
     }
-    let n = line_length(number, answer, waiting, marks);
+    let n = line_lengths::line_length(number, answer, waiting, marks);
     if fits(out.len(), at, n) {
         put_line(&mut *out, at, number, answer, waiting, marks);
     }
@@ -379,7 +275,7 @@ pub fn put_answer(
 pub fn put_refusal(out: &mut [u8], at: usize, number: u32, refusal: u8) -> usize
     ensures { λ r. ⌜ (r ≡ length (noLine number refusal)) × (now (out .exit) ≡ putIn (now (out .entry)) at (noLine number refusal)) ⌝ }
 {
-    let n = no_length(number, refusal);
+    let n = line_lengths::no_length(number, refusal);
     if fits(out.len(), at, n) {
         put_no(&mut *out, at, number, refusal);
     }

@@ -12,7 +12,7 @@ use Rattle.protocol.specs.declared.Step.{Step}
 use Rattle.protocol.specs.declared.Refusal.the-variants.{InputTooLong}
 use Rattle.protocol.specs.Answers.{refusalNumber}
 use Rattle.protocol.specs.Steps.{Machine}
-use Rattle.lines.specs.Lines.{noLine}
+use Rattle.line_lengths.specs.Lines.{noLine}
 use Rattle.records.specs.declared.Next.{Next}
 use Rattle.records.specs.Records.{nextAt}
 use Rattle.records.proofs.Round.{next-record, next-position, read-writable}

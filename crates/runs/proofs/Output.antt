@@ -10,7 +10,7 @@ use lib.ListN.{length, take, drop, replicate, length-append, take-append-drop}
 use lib.Seq.{length-take-le}
 use borrow.Author.Tests.{le-leb, lt-leb, lt-ltb, leb-true, leb-false}
 use Rattle.lines.specs.Text.{pasted, putIn}
-use Rattle.lines.proofs.Laws.{longest}
+use Rattle.line_lengths.proofs.Laws.{longest}
 use Rattle.lines.proofs.Text.{put-length, put-short, put-room, put-there, pasted-twice}
 use Rattle.limits.specs as limits
 use Rattle.switch.specs.Numbers.{switchCells}

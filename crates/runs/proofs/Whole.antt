@@ -14,8 +14,8 @@ use Rattle.protocol.specs.Answers.{refusalNumber}
 use Rattle.protocol.specs.Steps.{Machine}
 use Rattle.records.specs.declared.Next.{Next}
 use Rattle.records.specs.Records.{nextAt}
-use Rattle.lines.specs.Lines.{noLine}
-use Rattle.lines.proofs.Laws.{longest, refusal-length, answer-length}
+use Rattle.line_lengths.specs.Lines.{noLine}
+use Rattle.line_lengths.proofs.Laws.{longest, refusal-length, answer-length}
 use Rattle.turns.specs.Turns.{Standing, Printed, continued, readNext, nextPrinted, stopped, startedWith, firstRead, firstPrinted}
 use Rattle.runs.specs.Runs.{linesFrom, joined, linesOn, untouched, printed}
 use Rattle.runs.proofs.Ends.{over-prints, read-ahead, read-ahead-first}

@@ -13,7 +13,7 @@ use Rattle.protocol.specs.declared.Stepped.{Stepped}
 use Rattle.protocol.specs.Steps.{machine}
 use Rattle.records.specs.declared.Next.{Next}
 use Rattle.records.specs.Records.{nextRefusal}
-use Rattle.lines.specs.Lines.{lineOf, noLine}
+use Rattle.line_lengths.specs.Lines.{lineOf, noLine}
 use Rattle.lines.specs.Text.{putIn}
 use Rattle.turns.specs.declared.Run.{Run}
 use Rattle.turns.specs.declared.Ran.{Ran}

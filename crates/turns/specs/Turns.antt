@@ -14,7 +14,7 @@ use Rattle.protocol.specs.Answers.{refusalNumber}
 use Rattle.protocol.specs.Steps.{Machine, answerTo, after, startRefused, startAnswer, afterStart}
 use Rattle.records.specs.declared.Next.{Next}
 use Rattle.records.specs.Records.{nextAt, nextRefusal}
-use Rattle.lines.specs.Lines.{lineOf, noLine}
+use Rattle.line_lengths.specs.Lines.{lineOf, noLine}
 
 -- how a run stands between two records: the machine, where the next record begins, its number, and whether the run is over
 pub record Standing : Type 0 where

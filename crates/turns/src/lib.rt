@@ -8,7 +8,7 @@ ghost use Rattle.waiting.specs.Waiting.{noneWait};
 ghost use Rattle.protocol.specs.Answers.{refusalNumber};
 ghost use Rattle.protocol.specs.Steps.{machine};
 ghost use Rattle.protocol.specs.declared.Refusal.the-variants.{Format, InputTooLong};
-ghost use Rattle.lines.specs.Lines.{noLine};
+ghost use Rattle.line_lengths.specs.Lines.{noLine};
 ghost use Rattle.lines.specs.Text.{putIn};
 ghost use Rattle.turns.specs.Turns.{nextNumber, readNext, replicasOf, stopped, startedWith, firstPrinted};
 ghost use Rattle.turns.specs.Contracts.{placeAfter, goesOn, Stands, oneTurn, Concludes, turnOf, goingOn, overRun, concluded};

@@ -22,7 +22,7 @@ use Rattle.protocol.specs.Steps.{Machine, answerTo, after, steppedBy, startRefu
 use Rattle.protocol.proofs.Refusals.{start-cases}
 use Rattle.records.specs.declared.Found.{Found}
 use Rattle.records.specs.Records.{recordAt}
-use Rattle.lines.specs.Lines.{lineOf}
+use Rattle.line_lengths.specs.Lines.{lineOf}
 use Rattle.sessions.specs.declared.Session.{Session}
 use Rattle.sessions.specs.{refusalIn, operationIn, valuesIn, freshnessIn, sessionStarted, wholeStep, askedBy, sessionAfter}
 use Rattle.calls.specs.Calls.{contextFrom, answerFrom, lineFor}

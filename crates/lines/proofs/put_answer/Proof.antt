@@ -1,5 +1,5 @@
-use Rattle.lines.specs.Lines.{lineOf}
-use Rattle.lines.proofs.Laws.{answer-length}
+use Rattle.line_lengths.specs.Lines.{lineOf}
+use Rattle.line_lengths.proofs.Laws.{answer-length}
 use Rattle.lines.proofs.Text.{put-room, put-short, has-room, no-room}
 use native.Mathlib.Omega.{arith}
 use mathlib.Core.Path.{sym, _∙_}

@@ -7,9 +7,9 @@ use borrow.Author.Needs.{needs}
 use lib.ListN.{length, take, drop, length-set}
 use lib.Seq.{drop-set-lt}
 use denote.Ref.{now}
-use Rattle.lines.specs.Lines.{digits, decimal}
+use Rattle.line_lengths.specs.Lines.{digits, decimal}
 use Rattle.lines.proofs.Digits.{filled, fill-none, fill-more, fill-all}
-use Rattle.lines.proofs.Numbers.{decimal-places}
+use Rattle.line_lengths.proofs.Numbers.{decimal-places}
 use Rattle.lines.proofs.Text.{pasted-by}
 use Rattle.lines.proofs.put_digits.Statement.{statement}
 use Rattle.lines.proofs.put_digits.Tie as tie

@@ -1,6 +1,6 @@
-use Rattle.lines.specs.Lines.{lineOf}
+use Rattle.line_lengths.specs.Lines.{lineOf}
 use Rattle.lines.proofs.Text.{puts-then}
-use Rattle.lines.proofs.Laws.{done-length, none-length}
+use Rattle.line_lengths.proofs.Laws.{done-length, none-length}
 use native.Mathlib.Omega.{arith}
 use borrow.Author.Needs.{needs}
 use Rattle.lines.proofs.put_done.Statement.{statement}

@@ -1,5 +1,5 @@
 use native.Mathlib.Omega.{arith}
-use Rattle.lines.proofs.Laws.{finish-parts}
+use Rattle.line_lengths.proofs.Laws.{finish-parts}
 use Rattle.lines.proofs.Text.{puts-then}
 use borrow.Author.Needs.{needs}
 use Rattle.lines.proofs.put_finish.Statement.{statement}

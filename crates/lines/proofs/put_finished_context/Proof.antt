@@ -1,7 +1,7 @@
 use native.Mathlib.Omega.{arith}
-use Rattle.lines.proofs.Laws.{finished-context-length}
+use Rattle.line_lengths.proofs.Laws.{finished-context-length}
 use Rattle.lines.proofs.Text.{puts-then}
-use Rattle.lines.specs.Lines.{lineOf}
+use Rattle.line_lengths.specs.Lines.{lineOf}
 use borrow.Author.Needs.{needs}
 use Rattle.lines.proofs.put_finished_context.Statement.{statement}
 use Rattle.lines.proofs.put_finished_context.Tie as tie

@@ -1,4 +1,4 @@
-use Rattle.lines.proofs.Laws.{old-word, new-word, no-word}
+use Rattle.line_lengths.proofs.Laws.{old-word, new-word, no-word}
 use borrow.Author.Needs.{needs}
 use Rattle.lines.proofs.put_freshness.Statement.{statement}
 use Rattle.lines.proofs.put_freshness.Tie as tie

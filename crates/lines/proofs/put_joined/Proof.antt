@@ -1,8 +1,8 @@
 use mathlib.Core.Path.{_∙_}
 use native.Mathlib.Omega.{arith}
-use Rattle.lines.proofs.Laws.{joined-parts}
+use Rattle.line_lengths.proofs.Laws.{joined-parts}
 use Rattle.lines.proofs.Text.{puts-then}
-use Rattle.lines.specs.Lines.{joined}
+use Rattle.line_lengths.specs.Lines.{joined}
 use Rattle.lines.proofs.put_joined.Statement.{statement}
 use Rattle.lines.proofs.put_joined.Tie as tie
 

@@ -1,7 +1,7 @@
 use mathlib.Core.Path.{ap}
 use lib.ListN.{length}
 use native.Mathlib.Omega.{arith}
-use Rattle.lines.proofs.Laws.{later-there, later-none}
+use Rattle.line_lengths.proofs.Laws.{later-there, later-none}
 use Rattle.lines.proofs.Text.{puts-then, puts-none}
 use borrow.Author.Needs.{needs}
 use Rattle.lines.proofs.put_later.Statement.{statement}

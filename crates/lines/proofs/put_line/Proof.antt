@@ -1,4 +1,4 @@
-use Rattle.lines.specs.Lines.{lineOf}
+use Rattle.line_lengths.specs.Lines.{lineOf}
 use borrow.Author.Needs.{needs}
 use Rattle.lines.proofs.put_line.Statement.{statement}
 use Rattle.lines.proofs.put_line.Tie as tie

@@ -1,7 +1,7 @@
 use native.Mathlib.Omega.{arith}
-use Rattle.lines.proofs.Laws.{no-parts}
+use Rattle.line_lengths.proofs.Laws.{no-parts}
 use Rattle.lines.proofs.Text.{puts-then}
-use Rattle.lines.specs.Lines.{noLine}
+use Rattle.line_lengths.specs.Lines.{noLine}
 use borrow.Author.Needs.{needs}
 use Rattle.lines.proofs.put_no.Statement.{statement}
 use Rattle.lines.proofs.put_no.Tie as tie

@@ -1,4 +1,4 @@
-use Rattle.lines.specs.Lines.{noLine}
+use Rattle.line_lengths.specs.Lines.{noLine}
 use Rattle.lines.proofs.Text.{put-room, put-short, has-room, no-room}
 use native.Mathlib.Omega.{arith}
 use mathlib.Core.Path.{sym, _∙_}

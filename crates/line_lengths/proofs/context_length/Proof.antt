@@ -1,8 +1,8 @@
 use native.Mathlib.Omega.{arith}
-use Rattle.lines.proofs.Laws.{context-length}
+use Rattle.line_lengths.proofs.Laws.{context-length}
 use borrow.Author.Needs.{needs}
-use Rattle.lines.proofs.context_length.Statement.{statement}
-use Rattle.lines.proofs.context_length.Tie as tie
+use Rattle.line_lengths.proofs.context_length.Statement.{statement}
+use Rattle.line_lengths.proofs.context_length.Tie as tie
 
 returns : tie.Need-returns
 returns c =

@@ -1,10 +1,10 @@
-use Rattle.lines.proofs.Laws.{finish-length, old-word, new-word, no-word}
+use Rattle.line_lengths.proofs.Laws.{finish-length, old-word, new-word, no-word}
 use native.Mathlib.Omega.{arith}
 use mathlib.Core.Path.{ap}
 use lib.ListN.{length}
 use borrow.Author.Needs.{needs}
-use Rattle.lines.proofs.finish_length.Statement.{statement}
-use Rattle.lines.proofs.finish_length.Tie as tie
+use Rattle.line_lengths.proofs.finish_length.Statement.{statement}
+use Rattle.line_lengths.proofs.finish_length.Tie as tie
 
 returns : tie.Need-returns
 returns c = let a = c .before .before .before .args in let word = ap length (old-word _ (c .if1 .taken)) in (omega (arith, finish-length (a .operation) (a .value) (a .freshness), word, c .before .before .digits-of .ensures .0, c .before .digits-of2 .ensures .0), omega (arith, c .before .before .digits-of .ensures .1, c .before .digits-of2 .ensures .1))

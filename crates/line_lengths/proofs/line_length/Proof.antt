@@ -1,12 +1,12 @@
-use Rattle.lines.specs.Lines.{noLine, lineOf}
+use Rattle.line_lengths.specs.Lines.{noLine, lineOf}
 use lib.ListN.{length}
 use Prim.Native.Nat.{ℕ}
 use mathlib.Core.Path.{ap, _∙_}
-use Rattle.lines.proofs.Laws.{done-length, finished-length, finished-context-length}
+use Rattle.line_lengths.proofs.Laws.{done-length, finished-length, finished-context-length}
 use native.Mathlib.Omega.{arith}
 use borrow.Author.Needs.{needs}
-use Rattle.lines.proofs.line_length.Statement.{statement}
-use Rattle.lines.proofs.line_length.Tie as tie
+use Rattle.line_lengths.proofs.line_length.Statement.{statement}
+use Rattle.line_lengths.proofs.line_length.Tie as tie
 
 returns : tie.Need-returns
 returns c = let a = c .before .before .before .args in rw (c .before .enum-told .given .1) (omega (arith, done-length (a .number) (a .waiting) (a .marks), c .ok-length .ensures .0))

@@ -1,8 +1,8 @@
-use Rattle.lines.proofs.Laws.{ok-length}
+use Rattle.line_lengths.proofs.Laws.{ok-length}
 use native.Mathlib.Omega.{arith}
 use borrow.Author.Needs.{needs}
-use Rattle.lines.proofs.ok_length.Statement.{statement}
-use Rattle.lines.proofs.ok_length.Tie as tie
+use Rattle.line_lengths.proofs.ok_length.Statement.{statement}
+use Rattle.line_lengths.proofs.ok_length.Tie as tie
 
 returns : tie.Need-returns
 returns c = let a = c .before .before .before .args in (omega (arith, ok-length (a .number) (a .waiting) (a .marks), c .before .before .digits-of .ensures .0, c .before .digits-of2 .ensures .0, c .digits-of3 .ensures .0), omega arith)

@@ -1,11 +1,11 @@
 use mathlib.Core.Path.{ap}
 use lib.ListN.{length}
 use native.Mathlib.Omega.{arith}
-use Rattle.lines.proofs.Laws.{later-there, later-none}
-use Rattle.lines.proofs.Numbers.{decimal-places}
+use Rattle.line_lengths.proofs.Laws.{later-there, later-none}
+use Rattle.line_lengths.proofs.Numbers.{decimal-places}
 use borrow.Author.Needs.{needs}
-use Rattle.lines.proofs.later_length.Statement.{statement}
-use Rattle.lines.proofs.later_length.Tie as tie
+use Rattle.line_lengths.proofs.later_length.Statement.{statement}
+use Rattle.line_lengths.proofs.later_length.Tie as tie
 
 returns : tie.Need-returns
 returns c =

@@ -1,9 +1,9 @@
 use native.Mathlib.Omega.{arith}
-use Rattle.lines.proofs.Laws.{joined-parts}
-use Rattle.lines.proofs.Numbers.{decimal-places}
+use Rattle.line_lengths.proofs.Laws.{joined-parts}
+use Rattle.line_lengths.proofs.Numbers.{decimal-places}
 use borrow.Author.Needs.{needs}
-use Rattle.lines.proofs.joined_length.Statement.{statement}
-use Rattle.lines.proofs.joined_length.Tie as tie
+use Rattle.line_lengths.proofs.joined_length.Statement.{statement}
+use Rattle.line_lengths.proofs.joined_length.Tie as tie
 
 returns : tie.Need-returns
 returns c =

@@ -1,9 +1,9 @@
 -- Each return goes by the tests that led there.
 use borrow.Author.Needs.{needs}
 use borrow.Author.Tests.{lt-ltb, le-ltb}
-use Rattle.lines.specs.Lines.{places}
-use Rattle.lines.proofs.digits_of.Statement.{statement}
-use Rattle.lines.proofs.digits_of.Tie as tie
+use Rattle.line_lengths.specs.Lines.{places}
+use Rattle.line_lengths.proofs.digits_of.Statement.{statement}
+use Rattle.line_lengths.proofs.digits_of.Tie as tie
 
 pub digits-of-spec : {M : Type 1} → statement M
 unfolding places

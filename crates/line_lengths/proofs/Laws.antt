@@ -14,8 +14,8 @@ use Rattle.protocol.specs.declared.Answer.{Answer}
 use Rattle.protocol.specs.declared.Answer.the-variants.{Done, Finished, FinishedContext, Refused}
 use Rattle.protocol.specs.declared.Refusal.the-variants.{NotOpen}
 use Rattle.protocol.specs.Answers.{refusalNumber, noFreshness, oldRead, newRead}
-use Rattle.lines.specs.Lines.{digits, places, decimal, okStart, freshnessEnd, finishEnd, laterValue, joined, contextEnd, noLine, lineOf}
-use Rattle.lines.proofs.Numbers.{decimal-places, decimal-length}
+use Rattle.line_lengths.specs.Lines.{digits, places, decimal, okStart, freshnessEnd, finishEnd, laterValue, joined, contextEnd, noLine, lineOf}
+use Rattle.line_lengths.proofs.Numbers.{decimal-places, decimal-length}
 
 -- no line has more bytes
 abbrev pub longest : ℕ

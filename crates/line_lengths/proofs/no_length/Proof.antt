@@ -1,8 +1,8 @@
-use Rattle.lines.proofs.Laws.{no-length}
+use Rattle.line_lengths.proofs.Laws.{no-length}
 use native.Mathlib.Omega.{arith}
 use borrow.Author.Needs.{needs}
-use Rattle.lines.proofs.no_length.Statement.{statement}
-use Rattle.lines.proofs.no_length.Tie as tie
+use Rattle.line_lengths.proofs.no_length.Statement.{statement}
+use Rattle.line_lengths.proofs.no_length.Tie as tie
 
 returns : tie.Need-returns
 returns c = let a = c .before .before .args in omega (arith, no-length (a .number) (a .refusal), c .before .digits-of .ensures .0, c .digits-of2 .ensures .0)

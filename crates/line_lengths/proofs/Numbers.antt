@@ -8,7 +8,7 @@ use native.Mathlib.Omega.{arith}
 use lib.Dec.{ltb}
 use lib.ListN.{length, getD, length-append, List·getD-append}
 use borrow.Author.Tests.{ltb-true, ltb-false, lt-ltb}
-use Rattle.lines.specs.Lines.{digits, places, decimal}
+use Rattle.line_lengths.specs.Lines.{digits, places, decimal}
 
 -- the number that digits spell, v standing before them
 abbrev pub valueFrom : ℕ → List ℕ → ℕ

@@ -1,0 +1,3 @@
+-- The laws of lines for the crates above.
+pub mod Numbers
+pub mod Laws

@@ -1,0 +1,2 @@
+-- The lines that the run program prints.
+pub mod Lines

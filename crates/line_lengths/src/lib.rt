@@ -1,0 +1,113 @@
+// How long each part of a line is, and a whole line. crates/lines puts them into a buffer.
+ghost use mathlib.Core.Path.{_≡_};
+ghost use Prim.Native.Nat.{_≤_};
+ghost use lib.ListN.{length};
+ghost use Rattle.line_lengths.specs.Lines.{places, laterValue, joined, okStart, finishEnd, contextEnd, noLine, lineOf};
+use contexts::Context;
+use limits::Freshness;
+use protocol::Answer;
+use protocol::answers;
+use protocol::answers::NEW;
+use protocol::answers::OLD;
+
+// How many decimal digits a number has.
+pub fn digits_of(n: u32) -> usize
+    ensures { λ r. ⌜ (r ≡ places n) × (r ≤ 10) ⌝ }
+{
+    if n < 10 {
+        return 1;
+    }
+    if n < 100 {
+        return 2;
+    }
+    if n < 1000 {
+        return 3;
+    }
+    if n < 10000 {
+        return 4;
+    }
+    if n < 100000 {
+        return 5;
+    }
+    if n < 1000000 {
+        return 6;
+    }
+    if n < 10000000 {
+        return 7;
+    }
+    if n < 100000000 {
+        return 8;
+    }
+    if n < 1000000000 {
+        return 9;
+    }
+    10
+}
+
+pub fn ok_length(number: u32, waiting: u32, marks: u32) -> usize
+    ensures { λ r. ⌜ (r ≡ length (okStart number waiting marks)) × (r ≤ 36) ⌝ }
+{
+    digits_of(number) + digits_of(waiting) + digits_of(marks) + 6
+}
+
+pub fn no_length(number: u32, refusal: u8) -> usize
+    ensures { λ r. ⌜ r ≡ length (noLine number refusal) ⌝ }
+{
+    digits_of(number) + digits_of(refusal as u32) + 5
+}
+
+pub fn finish_length(operation: u32, value: u32, freshness: Freshness) -> usize
+    ensures { λ r. ⌜ (r ≡ length (finishEnd operation value freshness)) × (r ≤ 26) ⌝ }
+{
+    let digits = digits_of(operation) + digits_of(value);
+    if freshness == OLD {
+        return digits + 6;
+    }
+    if freshness == NEW {
+        return digits + 6;
+    }
+    digits + 4
+}
+
+pub fn later_length(n: u32, i: u32, value: u32) -> usize
+    ensures { λ r. ⌜ (r ≡ length (laterValue n i value)) × (r ≤ 11) ⌝ }
+{
+    if n <= i {
+        return 0;
+    }
+    digits_of(value) + 1
+}
+
+pub fn joined_length(v: Context) -> usize
+    ensures { λ r. ⌜ (r ≡ length (joined v)) × (r ≤ 87) ⌝ }
+{
+    digits_of(v.first)
+        + later_length(v.count, 1, v.second)
+        + later_length(v.count, 2, v.third)
+        + later_length(v.count, 3, v.fourth)
+        + later_length(v.count, 4, v.fifth)
+        + later_length(v.count, 5, v.sixth)
+        + later_length(v.count, 6, v.seventh)
+        + later_length(v.count, 7, v.eighth)
+}
+
+pub fn context_length(read: u32, v: Context) -> usize
+    ensures { λ r. ⌜ (r ≡ length (contextEnd read v)) × (r ≤ 101) ⌝ }
+{
+    digits_of(read) + joined_length(v) + 4
+}
+
+pub fn line_length(number: u32, answer: Answer, waiting: u32, marks: u32) -> usize
+    ensures { λ r. ⌜ r ≡ length (lineOf number answer waiting marks) ⌝ }
+{
+    match answer {
+        Answer::Done => ok_length(number, waiting, marks) + 6,
+        Answer::Finished(operation, value, freshness) => {
+            ok_length(number, waiting, marks) + finish_length(operation, value, freshness)
+        }
+        Answer::FinishedContext(read, v) => {
+            ok_length(number, waiting, marks) + context_length(read, v)
+        }
+        Answer::Refused(refusal) => no_length(number, answers::refusal_number(refusal)),
+    }
+}
