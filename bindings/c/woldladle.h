@@ -6,7 +6,7 @@
  * What a session is lent, and nothing else: the libraries allocate no memory and keep nothing between calls.
  *
  *   struct woldladle_session        64 bytes, aligned to 8
- *   uint32_t switch_numbers[100]    400 bytes: the switch and its marks
+ *   uint32_t switch_numbers[101]    404 bytes: the switch, its marks and how many of them count
  *   uint32_t store[16673]           66,692 bytes: the chain, the values and stamps of the replicas, and the writes in the links
  *   uint32_t opens[642]             2,568 bytes: the open operations, and a row for each waiting packet of a read of several objects
  *   packets[64]                     1,536 bytes: the waiting packets, oldest first; a longer array is taken too, and its first 64 places are used
@@ -25,7 +25,7 @@
 extern "C" {
 #endif
 
-#define WOLDLADLE_SWITCH 100
+#define WOLDLADLE_SWITCH 101
 #define WOLDLADLE_STORE 16673
 #define WOLDLADLE_OPENS 642
 #define WOLDLADLE_PLACES 64
@@ -48,7 +48,7 @@ struct woldladle_session {
     uint32_t count;     /* how many values it has: 0 where none finished, 1, or 2 to 8 for a read of so many objects */
     uint32_t values[WOLDLADLE_LONGEST_CONTEXT]; /* in the order given; 0 behind the last */
     uint32_t freshness; /* WOLDLADLE_OLD or WOLDLADLE_NEW, else WOLDLADLE_NONE */
-    uint32_t marks;     /* marks counting */
+    uint32_t marks;     /* marks counting: the number that the switch stores */
     size_t waiting;     /* packets waiting, which the next step begins with */
 };
 

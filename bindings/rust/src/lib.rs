@@ -367,6 +367,34 @@ mod tests {
         }
     }
 
+    /// In a state with a wrong number stored, the number is handed on until a step sets it.
+    #[test]
+    fn the_stored_number_of_marks_is_handed_on() {
+        let mut model = Model::start(1).expect("one");
+        let mut marks_after = |stored: Option<u32>, record: &[u8]| {
+            if let Some(number) = stored {
+                model.0.switch[SWITCH - 1] = number;
+            }
+            let answer = model.step(record);
+            (model.marks(), matches!(answer, Answer::Refused(_)))
+        };
+        const READ: [u8; 5] = [1, 0, 2, 0, 5];
+        const WRITE: [u8; 9] = [2, 0, 6, 0, 5, 0, 0, 0, 9];
+        const REPLACE: [u8; 5] = [7, 0, 2, 0, 2];
+        assert_eq!(marks_after(Some(7), &READ), (7, false));
+        for _ in 0..3 {
+            assert_eq!(marks_after(None, &DELIVER), (7, false));
+        }
+        assert_eq!(marks_after(None, &DELIVER), (7, true));
+        assert_eq!(marks_after(None, &WRITE), (7, false));
+        assert_eq!(marks_after(None, &DELIVER), (8, false)); // the object is marked
+        assert_eq!(marks_after(None, &DELIVER), (8, false));
+        assert_eq!(marks_after(None, &DELIVER), (8, false));
+        assert_eq!(marks_after(None, &DELIVER), (0, false)); // the completion
+        assert_eq!(marks_after(Some(7), &REPLACE), (0, false));
+        assert_eq!(marks_after(Some(7), &REPLACE), (7, true));
+    }
+
     /// The line of record 5, with 2 packets and 1 mark, from these fields.
     fn line_of(operation: u32, count: u32, freshness: u32) -> String {
         let mut model = Model::start(1).expect("one");

@@ -1,6 +1,6 @@
 //! The libraries' functions and structs, as bindings/c/woldladle.h declares them.
 
-pub const SWITCH: usize = 100;
+pub const SWITCH: usize = 101;
 pub const STORE: usize = 16_673;
 pub const OPENS: usize = 642;
 pub const PLACES: usize = 64;

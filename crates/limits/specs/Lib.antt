@@ -54,3 +54,7 @@ counters = 65536
 -- the width of a place in the log: no run reaches its end
 abbrev pub lastPosition : ℕ
 lastPosition = 4294967295
+
+-- Req 03: the width of the stored number of counting marks: no run reaches its end
+abbrev pub lastMarks : ℕ
+lastMarks = 4294967295

@@ -20,7 +20,8 @@ use Rattle.lists.specs.{allOf}
 use Rattle.lists.proofs.AllOf.{all-member}
 use Rattle.switch.specs.Numbers.{numberIn, counterIn, committedIn, directIn}
 use Rattle.switch.specs.DirtySet.{lookedUp, marked, stampFor, completed}
-use Rattle.switch.proofs.Laws.{SizedSwitch, sized-marked, marked-committed, marked-counter, sized-completed, completed-committed, completed-counter}
+use Rattle.switch.proofs.Laws.{marked-committed, marked-counter, completed-committed, completed-counter}
+use Rattle.switch.proofs.Counted.{SwitchInvariant, invariant-marked, invariant-completed}
 use Rattle.operations.specs.{isOpen, lastGiven, closing}
 use Rattle.operations.proofs.Behind.{SameOpens, same-self, same-last, same-open, same-once}
 use Rattle.contexts.specs.declared.Context.{Context}
@@ -62,9 +63,9 @@ use Rattle.linearizability.proofs.Invariant.{Placed, Books, Good, done,
 -- the invariant, from what the list then holds
 pub good-of : {k : Machine} {h : History} {es : List Entry} (issued log : List Write) (n : ℕ) (ms : List Message) → messages (k .waiting) ≡ ms
     → Core h es issued log n ms (committedIn (k .switch)) (k .opens) → Shows (k .store) log n → ((p : Message) → p ∈ ms → Placed (k .store) p)
-    → Books (k .opens) h → counterIn (k .switch) + unstamped ms ≤ lastGiven (k .opens) → SizedSwitch (k .switch) → waiting.Exact (k .waiting) → Good k h es
+    → Books (k .opens) h → counterIn (k .switch) + unstamped ms ≤ lastGiven (k .opens) → SwitchInvariant (k .switch) → waiting.Exact (k .waiting) → Good k h es
 good-of issued log n ms e c s p b u z x =
-    record { issued = issued; log = log; n = n; core = rw e c; shown = s; posted = rw e p; books = b; counted = rw e u; switch-sized = z; exact = x }
+    record { issued = issued; log = log; n = n; core = rw e c; shown = s; posted = rw e p; books = b; counted = rw e u; switch-holds = z; exact = x }
 
 -- writes that were stamped are to objects that there are
 pub issued-small : {m : Machine} {h : History} {es : List Entry} (g : Good m h es) (w : Write) → w ∈ g .issued → w .object < 1024
@@ -166,7 +167,7 @@ module _ {m : Machine} {h : History} {es : List Entry} (g : Good m h es) {at : �
   After u = Then (Deliver at choice) m h es u
 
   -- the message is dropped, and the switch may change
-  good-switched : (w : List ℕ) → Core h es (g .issued) (g .log) (g .n) rest (committedIn w) (m .opens) → counterIn w ≤ counterIn (m .switch) → SizedSwitch w
+  good-switched : (w : List ℕ) → Core h es (g .issued) (g .log) (g .n) rest (committedIn w) (m .opens) → counterIn w ≤ counterIn (m .switch) → SwitchInvariant w
       → After (changingSwitch (givenBy m) (switched (dropping at) w))
   unfolding dropping rest
   good-switched w k c z =
@@ -175,11 +176,11 @@ module _ {m : Machine} {h : History} {es : List Entry} (g : Good m h es) {at : �
       (waiting.exact-edited (m .waiting) (takeOut at) (g .exact)))
 
   pub good-dropped : After (keeping (givenBy m) (dropping at))
-  good-dropped = good-switched (m .switch) lost (omega arith) (g .switch-sized)
+  good-dropped = good-switched (m .switch) lost (omega arith) (g .switch-holds)
 
   -- another message comes of it
   good-passed : (w : List ℕ) (q : Message) (issued : List Write) → Core h es issued (g .log) (g .n) (rest ++ q ∷ []) (committedIn w) (m .opens)
-      → Placed (m .store) q → unstampedOne q ≡ 0 → counterIn w ≤ counterIn (m .switch) + unstampedOne msg → SizedSwitch w
+      → Placed (m .store) q → unstampedOne q ≡ 0 → counterIn w ≤ counterIn (m .switch) + unstampedOne msg → SwitchInvariant w
       → After (changingSwitch (givenBy m) (switched (passing at q) w))
   unfolding passing rest
   good-passed w q issued k p u c z =
@@ -191,7 +192,7 @@ module _ {m : Machine} {h : History} {es : List Entry} (g : Good m h es) {at : �
   -- so where the switch stays
   good-answered : (q : Message) → Core h es (g .issued) (g .log) (g .n) (rest ++ q ∷ []) (committedIn (m .switch)) (m .opens) → Placed (m .store) q
       → unstampedOne q ≡ 0 → After (keeping (givenBy m) (passing at q))
-  good-answered q k p u = good-passed (m .switch) q (g .issued) k p u (omega arith) (g .switch-sized)
+  good-answered q k p u = good-passed (m .switch) q (g .issued) k p u (omega arith) (g .switch-holds)
 
   -- a message of which the core allows it
   good-sent : (q : Message) → Fine h es (g .issued) (top 0 (take (g .n) (g .log))) (m .opens) q → ((o : ℕ) → Asks q o → ⊥) → ((r : ℕ) → Names q r → ⊥)
@@ -210,7 +211,7 @@ module _ {m : Machine} {h : History} {es : List Entry} (g : Good m h es) {at : �
         rw (order-stays m (done m (changingOpens (givenBy m) (opened (dropping at) opens'))) es refl)
         (good-of (g .issued) (g .log) (g .n) rest (taken-out (m .waiting) i)
         (core-leave (front at (m .waiting)) msg (back at (m .waiting)) whole r names same) (g .shown) others
-        (books-same open-same sized (g .books)) (omega (arith, fewer, same-last open-same)) (g .switch-sized) (waiting.exact-edited (m .waiting) (takeOut at) (g .exact)))
+        (books-same open-same sized (g .books)) (omega (arith, fewer, same-last open-same)) (g .switch-holds) (waiting.exact-edited (m .waiting) (takeOut at) (g .exact)))
 
     -- another message that names the row comes of it
     good-turned : (q : Message) → Fine h es (g .issued) (top 0 (take (g .n) (g .log))) opens' q → ((o : ℕ) → Asks q o → ⊥) → ((s : ℕ) → Names q s → s ≡ r)
@@ -221,7 +222,7 @@ module _ {m : Machine} {h : History} {es : List Entry} (g : Good m h es) {at : �
         (good-of (g .issued) (g .log) (g .n) (rest ++ q ∷ []) (taken-out-add (m .waiting) i q)
         (core-turn (front at (m .waiting)) msg (back at (m .waiting)) whole r names same q f a only held) (g .shown)
         (posted-add {s = m .store} rest q others p) (books-same open-same sized (g .books))
-        (omega (arith, fewer, same-last open-same, unstamped-append rest (q ∷ []), asks-none q a)) (g .switch-sized)
+        (omega (arith, fewer, same-last open-same, unstamped-append rest (q ∷ []), asks-none q a)) (g .switch-holds)
         (waiting.exact-edited (m .waiting) _ (g .exact)))
 
   -- the row is freed
@@ -272,7 +273,7 @@ module _ {m : Machine} {h : History} {es : List Entry} (g : Good m h es) {at : �
         let s : Shows store (g .log ++ w ∷ []) (g .n) = shows-taken (g .shown) r w taken first (g .core .visible .rising) small other in
         rw (order-stays m (done m (changingStore (givenBy m) (stored (dropping at) store))) es (s .tail-has ∙ sym (g .shown .tail-has)))
         (good-of (g .issued) (g .log ++ w ∷ []) (g .n) rest (taken-out (m .waiting) i) accepted s
-        (λ q j. placed-same (m .store) store same-members q (others q j)) (g .books) (omega (arith, fewer)) (g .switch-sized)
+        (λ q j. placed-same (m .store) store same-members q (others q j)) (g .books) (omega (arith, fewer)) (g .switch-holds)
         (waiting.exact-edited (m .waiting) _ (g .exact)))
 
     good-taken-lone : r ≡ tailOf (m .store) → overfull (held (m .waiting)) 1 2 ≡ false
@@ -290,7 +291,7 @@ module _ {m : Machine} {h : History} {es : List Entry} (g : Good m h es) {at : �
         (good-of (g .issued) (g .log ++ w ∷ []) (suc (g .n)) (rest ++ sent)
         (taken-out-add-two (m .waiting) i (Reply (w .operation) (w .value) 0 noFreshness) (Completion (w .object) (w .stamp)) roomy) c s
         (λ q j. placed-same (m .store) store same-members q (elim (cases-append rest j) [ inl l ↦ others q l | inr l ↦ answer q l ])) (g .books)
-        (omega (arith, fewer, unstamped-append rest sent)) (g .switch-sized) (waiting.exact-edited (m .waiting) _ (g .exact)))
+        (omega (arith, fewer, unstamped-append rest sent)) (g .switch-holds) (waiting.exact-edited (m .waiting) _ (g .exact)))
       where
         answer : (q : Message) → q ∈ Reply (w .operation) (w .value) 0 noFreshness ∷ Completion (w .object) (w .stamp) ∷ [] → Placed (m .store) q
         answer q j = elim (cases-cons j) [ inl e ↦ rw e tt | inr l ↦ rw (only-member l) tt ]
@@ -305,7 +306,7 @@ module _ {m : Machine} {h : History} {es : List Entry} (g : Good m h es) {at : �
       (good-of (g .issued) (g .log) (g .n) rest (taken-out (m .waiting) i)
       (core-rows (core-finishes lost o v c f (subst (Fine h es (g .issued) (top 0 (take (g .n) (g .log))) (m .opens)) e fine) (g .books .opened o still .1))
       (λ q j r n. context-closing (m .opens) o r))
-      (g .shown) others (books-finish o still (g .books) (v ∷ [])) (omega (arith, fewer, last-closing (m .opens) o (g .books .cells) still)) (g .switch-sized)
+      (g .shown) others (books-finish o still (g .books) (v ∷ [])) (omega (arith, fewer, last-closing (m .opens) o (g .books .cells) still)) (g .switch-holds)
       (waiting.exact-edited (m .waiting) _ (g .exact))))
 
   good-context : (o r : ℕ) → msg ≡ ContextReply o r → isOpen (m .opens) o ≡ true
@@ -321,7 +322,7 @@ module _ {m : Machine} {h : History} {es : List Entry} (g : Good m h es) {at : �
       (context-finishes (core-leave (front at (m .waiting)) msg (back at (m .waiting)) whole r names agree) o (rowNumbers (m .opens) r)
       (subst (Fine h es (g .issued) (top 0 (take (g .n) (g .log))) (m .opens)) e fine) (g .books .opened o still .1))
       (g .shown) others (books-same (opens-freeing l r) (sized-freeing l r (closed .cells)) closed)
-      (omega (arith, fewer, last-closing (m .opens) o (g .books .cells) still, same-last (opens-freeing l r))) (g .switch-sized)
+      (omega (arith, fewer, last-closing (m .opens) o (g .books .cells) still, same-last (opens-freeing l r))) (g .switch-holds)
       (waiting.exact-edited (m .waiting) _ (g .exact)))
 
   -- a reply of an operation that is not open is ignored
@@ -356,17 +357,17 @@ good-message {m} {h} {es} g {at} choice (UnstampedWrite o x v) i =
     by-test (λ (u : Switched). After g choice i (changingSwitch (givenBy m) u)) (allPermit (m .store) (numberIn (m .switch))) _ _
     (λ e. by-test (λ (d : Decision). After g choice i (changingSwitch (givenBy m) (switched d (marked (m .switch) x)))) (eqb (stampFor (m .switch) x) 0) _ _
     (λ none. good-switched g choice i (marked (m .switch) x) (rw (marked-committed (m .switch) x) (lost g choice i))
-    (omega (arith, counter true none)) (sized-marked (m .switch) x (g .switch-sized)))
+    (omega (arith, counter true none)) (invariant-marked (m .switch) x (g .switch-holds)))
     (λ some. good-passed g choice i (marked (m .switch) x) (StampedWrite (headOf (m .store)) w) (g .issued ++ w ∷ [])
     (rw (marked-committed (m .switch) x) (core-stamp (front at (m .waiting)) (back at (m .waiting)) w (headOf (m .store)) (whole g choice i)))
-    (λ l. refl) refl (omega (arith, counter false some)) (sized-marked (m .switch) x (g .switch-sized))))
+    (λ l. refl) refl (omega (arith, counter false some)) (invariant-marked (m .switch) x (g .switch-holds))))
     (λ e. good-dropped g choice i)
   where
     w : Write
     w = record { operation = o; object = x; value = v; stamp = stampFor (m .switch) x }
 
     counter : (b : Bool) → eqb (stampFor (m .switch) x) 0 ≡ b → counterIn (marked (m .switch) x) ≡ cond b (counterIn (m .switch)) (counterIn (m .switch) + 1)
-    counter b e = marked-counter (m .switch) x (g .switch-sized) ∙ ap (λ (c : Bool). cond c (counterIn (m .switch)) (counterIn (m .switch) + 1)) e
+    counter b e = marked-counter (m .switch) x (g .switch-holds .sized) ∙ ap (λ (c : Bool). cond c (counterIn (m .switch)) (counterIn (m .switch) + 1)) e
 good-message {m} {h} {es} g {at} choice (SwitchRead o x) i =
     by-test P (directIn (m .switch)) _ _
     (λ e. by-test P (eqb (lookedUp (m .switch) x) 0) _ _
@@ -434,8 +435,8 @@ good-message {m} {h} {es} g {at} choice (NormalRead r o x c) i =
         (core-normal (lost g choice i) o x c (freshness (stamps (take (g .n) (g .log)) x) c) f (new-from (stamps (take (g .n) (g .log)) x) c))
 good-message {m} {h} {es} g {at} choice (Completion x t) i =
     good-switched g choice i (completed (m .switch) x t)
-    (rw (completed-committed (m .switch) x t (g .switch-sized), larger-is (committedIn (m .switch)) t) (core-commit (lost g choice i) t (fine g choice i)))
-    (omega (arith, completed-counter (m .switch) x t (g .switch-sized))) (sized-completed (m .switch) x t (g .switch-sized))
+    (rw (completed-committed (m .switch) x t (g .switch-holds .sized), larger-is (committedIn (m .switch)) t) (core-commit (lost g choice i) t (fine g choice i)))
+    (omega (arith, completed-counter (m .switch) x t (g .switch-holds .sized))) (invariant-completed (m .switch) x t (g .switch-holds .sized))
 good-message {m} {h} {es} g {at} choice (Reply o v c f) i = go (isOpen (m .opens) o) refl
   where
     go : (b : Bool) → isOpen (m .opens) o ≡ b → After g choice i (changingOpens (givenBy m) (reply (m .opens) at o v f))

@@ -11,7 +11,7 @@ use Rattle.history.proofs.Lists.{in-insert, cases-append, only-member}
 use Rattle.history.proofs.Entries.{Entry, New, Unfinished}
 use Rattle.history.proofs.Growth.{finished-begun}
 use Rattle.switch.specs.Numbers.{counterIn, committedIn}
-use Rattle.switch.proofs.Laws.{SizedSwitch}
+use Rattle.switch.proofs.Counted.{SwitchInvariant}
 use Rattle.operations.specs.{isOpen, lastGiven}
 use Rattle.operations.proofs.Laws.{SizedOpens, OpenOnce}
 use Rattle.contexts.specs.{numbersOf}
@@ -88,7 +88,7 @@ pub record Good (m : Machine) (h : History) (es : List Entry) : Type 0 where
   pub books : Books (m .opens) h
   -- each stamp that the switch gave and each unstamped write that waits has an operation of its own
   pub counted : counterIn (m .switch) + unstamped (messages (m .waiting)) ≤ lastGiven (m .opens)
-  pub switch-sized : SizedSwitch (m .switch)
+  pub switch-holds : SwitchInvariant (m .switch)
   pub exact : waiting.Exact (m .waiting)
 
 -- ---- one step

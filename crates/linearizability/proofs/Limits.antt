@@ -1,4 +1,5 @@
--- What a run cannot reach: the waiting list, the links, the open operations, the operation numbers, the counter and the log's positions keep their limits.
+-- What a run cannot reach: the waiting list, the links, the open operations, the operation numbers, the counter and the log's positions keep their limits. And the stored number of
+-- counting marks is the count over the slots.
 use mathlib.Core.Path.{_≡_}
 use mathlib.Core.Bool.{true}
 use mathlib.Core.List.{List, [], _∷_}
@@ -7,7 +8,8 @@ use native.Mathlib.Omega.{arith}
 use lib.ListN.{length}
 use Rattle.history.specs.History.{_∈_, History}
 use Rattle.history.proofs.Entries.{Entry}
-use Rattle.switch.specs.Numbers.{counterIn}
+use Rattle.switch.specs.Numbers.{counterIn, marksIn}
+use Rattle.switch.specs.DirtySet.{countedMarks}
 use Rattle.operations.specs.{openCells, openCount, lastGiven}
 use Rattle.operations.proofs.Laws as operations
 use Rattle.store.specs.{appliedBy}
@@ -18,7 +20,7 @@ use Rattle.waiting.specs.Waiting.{held}
 use Rattle.waiting.proofs.Laws as waiting
 use Rattle.protocol.specs.declared.Message.the-variants.{UnstampedWrite}
 use Rattle.protocol.specs.declared.Step.{Step}
-use Rattle.protocol.specs.Steps.{Machine, after, started}
+use Rattle.protocol.specs.Steps.{Machine, after, steppedBy, started}
 use Rattle.log.proofs.Shows.{applied-between, linked-is}
 use Rattle.linearizability.specs.Run.{historyFrom, historyOf}
 use Rattle.linearizability.proofs.Packets.{unstamped, unstamped-in}
@@ -77,6 +79,14 @@ module _ (n : ℕ) (low : 1 ≤ n) (high : n ≤ 8) (row : List Packet) (xs : Li
   -- so while an unstamped write waits, the counter is not at its last number: no run comes to the rule for that
   pub counter-never-out : (o x v : ℕ) → UnstampedWrite o x v ∈ messages (machineOf n row xs .waiting) → counterIn (machineOf n row xs .switch) < 65535
   counter-never-out o x v i = omega (arith, operations-within, counter-within, unstamped-in (messages (machineOf n row xs .waiting)) i)
+
+  -- Req 03: the stored number 'must equal the count over the slots after every step of a run'
+  pub marks-counted : marksIn (machineOf n row xs .switch) ≡ countedMarks (machineOf n row xs .switch)
+  marks-counted = good-run .switch-holds .stored
+
+  -- so 'In a run printed numbers are as before': what any further step hands back is the count over the slots after it
+  pub marks-handed-back : (x : Step) → steppedBy (machineOf n row xs) x .marks ≡ countedMarks (after (machineOf n row xs) x .switch)
+  marks-handed-back x = good-after good-run x .switch-holds .stored
 
   -- a live replica has applied no more writes than there are operations: the test of the log's last position turns no write down in a run
   pub positions-within : (r : ℕ) → isLive (machineOf n row xs .store) r ≡ true → appliedBy (machineOf n row xs .store) r ≤ 65535

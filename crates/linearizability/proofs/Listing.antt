@@ -1,4 +1,4 @@
--- Runs computed by the definitions: document 01's listing, a removed tail, a removed head, and a read of a whole context. So the theorem is not about a machine that drops every packet.
+-- Runs computed by the definitions: document 01's listing, a removed tail, a removed head, a read of a whole context, and a completion that stops three marks. So the theorem is not about a machine that drops every packet.
 use mathlib.Core.Path.{_≡_, refl, sym, _∙_, subst}
 use mathlib.Core.List.{List, [], _∷_, map}
 use Prim.Native.Nat.{ℕ}
@@ -13,7 +13,7 @@ use Rattle.protocol.specs.Messages.{packetOf, contextMessage, messageOf, isUnst
 use Rattle.protocol.specs.Decisions.{refusing, dropping, passing, overfull}
 use Rattle.protocol.specs.Contexts as Rules
 use Rattle.protocol.specs.Delivery.{stamping, unstampedWrite, switchRead, stampedWrite, directRead, normalRead, completion, reply, deliveredMessage}
-use Rattle.protocol.specs.Steps.{asking, beginOperation, beginContext, delivered, advancing, removing, givingUp, positionOf, decided, isMalformed, decidedIn, answerTo, after as next, started}
+use Rattle.protocol.specs.Steps.{asking, beginOperation, beginContext, delivered, advancing, removing, givingUp, positionOf, decided, isMalformed, decidedIn, answerTo, after as next, Machine, steppedBy, started}
 use Rattle.waiting.specs.declared.Packet.{Packet}
 use Rattle.waiting.specs.Waiting.{blank, heldIn, noneWait, lookAt, takesOut, leftBy, fits, afterTaking, adding, edited}
 use Rattle.lists.specs.{moves, indexOf, listOf, allOf}
@@ -21,9 +21,9 @@ use Rattle.contexts.specs as Contexts
 use Rattle.contexts.specs.declared.Objects.{Objects}
 use Rattle.operations.specs.{openCount, openNumbers, lastGiven, noneOpen, openPlace, isOpen, roomToOpen, opening, closing}
 use Rattle.stamp.specs.Stamps.{stampOf, numberOf, counterOf, isAbove, largerOf}
-use Rattle.switch.specs.Numbers.{numberIn, counterIn, committedIn, directIn, slotObject, slotStamp}
+use Rattle.switch.specs.Numbers.{numberIn, counterIn, committedIn, directIn, marksIn, slotObject, slotStamp}
 use Rattle.slots.specs.{firstSlot, secondSlot, thirdSlot, holdsObject, countsAbove, isFree, holdsAbove, isCompleted}
-use Rattle.switch.specs.DirtySet.{freeSlot, slotFor, markAbove, lookedUp, nextStamp, marking, canMark, marked, stampFor, clearedAt, completed, newSwitch}
+use Rattle.switch.specs.DirtySet.{freeSlot, slotFor, markAbove, lookedUp, nextStamp, lessOne, oneMore, marksFor, marking, canMark, marked, stampFor, countedTo, countedMarks, clearedAt, committing, completed, newSwitch}
 use Rattle.chain.specs as Chain
 use Rattle.store.specs as Cells
 use Rattle.replicas.specs.Links
@@ -68,6 +68,15 @@ abbrev pub points : Store → List Entry → List ℕ → List (List ℕ)
 points s [] xs = map s xs ∷ []
 points s (e ∷ es) xs = map s xs ∷ points (after s (e ∷ [])) es xs
 
+-- three writes are stamped, and the replica takes the last of them first: its completion stops all three marks
+abbrev pub several-run : List Step
+several-run = BeginWrite 5 1 ∷ BeginWrite 6 2 ∷ BeginWrite 7 3 ∷ first ∷ first ∷ first ∷ Deliver 2 0 ∷ Deliver 3 0 ∷ []
+
+-- the counting marks after each step
+abbrev pub marksAlong : Machine → List Step → List ℕ
+marksAlong m [] = []
+marksAlong m (x ∷ xs) = steppedBy m x .marks ∷ marksAlong (next m x) xs
+
 pub record Computed : Type 0 where
   pub listing-history : historyOf 2 row listing ≡ finished 2 (9 ∷ []) ∷ begun 2 (reads (5 ∷ [])) ∷ finished 1 (9 ∷ []) ∷ begun 1 (writes 5 9) ∷ []
   pub listing-order : orderOf 2 row listing ≡ 1 ∷ 2 ∷ []
@@ -85,10 +94,12 @@ pub record Computed : Type 0 where
   -- no point of the order has the pair 0 and 2, and two have the pair 1 and 0: before and behind operation 3
   pub context-points : points empty (orderFrom (started 1 row) [] [] context-run) (5 ∷ 6 ∷ []) ≡
       (0 ∷ 0 ∷ []) ∷ (0 ∷ 0 ∷ []) ∷ (1 ∷ 0 ∷ []) ∷ (1 ∷ 0 ∷ []) ∷ (1 ∷ 2 ∷ []) ∷ (1 ∷ 2 ∷ []) ∷ []
+  -- Req 03: 'also when one completion stops several marks from counting'
+  pub several-marks : marksAlong (started 1 row) several-run ≡ 0 ∷ 0 ∷ 0 ∷ 1 ∷ 2 ∷ 3 ∷ 3 ∷ 0 ∷ []
 
 pub computed : Computed
-unfolding packetOf contextMessage messageOf isUnstamped Contexts.placeOf Contexts.sizeOf Contexts.numbersOf Contexts.keptAt Contexts.mapped Contexts.isCount Contexts.isObject Contexts.areObjects Contexts.standsFirst Contexts.areDifferent Contexts.isContext Contexts.emptyAt Contexts.isNaming Contexts.rowCell Contexts.sizeAt Contexts.numberAt Contexts.contextAt Contexts.freeRow Contexts.puts Contexts.holding Contexts.freeing Rules.goesDirectly Rules.contextRead Rules.answeringContext Rules.normalContext Rules.contextReply beginContext refusing dropping passing overfull stamping unstampedWrite switchRead stampedWrite directRead normalRead completion reply deliveredMessage asking beginOperation delivered advancing removing givingUp positionOf decided isMalformed decidedIn answerTo next started heldIn noneWait lookAt takesOut leftBy fits afterTaking adding edited moves indexOf listOf openCount openNumbers lastGiven noneOpen openPlace isOpen roomToOpen opening closing stampOf numberOf counterOf isAbove largerOf numberIn counterIn committedIn directIn slotObject slotStamp firstSlot secondSlot thirdSlot holdsObject countsAbove isFree holdsAbove freeSlot slotFor markAbove lookedUp nextStamp marking canMark marked stampFor isCompleted clearedAt completed newSwitch Chain.chainPlace Chain.isLive Chain.memberAt Chain.headOf Chain.tailOf Chain.chosenBy allOf Chain.permits Chain.allPermit Chain.removed Chain.emptyCells Chain.numbered Chain.emptyStore Links.entries has objectsOf finishOrder Cells.entryCell Cells.valueCell Cells.stampCell Cells.storeCells Cells.liveCount Cells.orderAt Cells.members Cells.rowOf Cells.highestOf Cells.permittedBy Cells.appliedBy Cells.entryAt Cells.valueAt Cells.stampAt Cells.logged Cells.tabled Cells.raised Replicas.linkedWrites Replicas.accepts Replicas.nextPosition Replicas.applying Replicas.taking Replicas.pendingAt Replicas.pending Replicas.oldest Replicas.answersDirect
-computed = record { listing-history = refl; listing-order = refl; tail-removed = refl; tail-removed-order = refl; head-removed = refl; overtaken-order = refl; context-history = refl; context-order = refl; context-points = refl }
+unfolding packetOf contextMessage messageOf isUnstamped Contexts.placeOf Contexts.sizeOf Contexts.numbersOf Contexts.keptAt Contexts.mapped Contexts.isCount Contexts.isObject Contexts.areObjects Contexts.standsFirst Contexts.areDifferent Contexts.isContext Contexts.emptyAt Contexts.isNaming Contexts.rowCell Contexts.sizeAt Contexts.numberAt Contexts.contextAt Contexts.freeRow Contexts.puts Contexts.holding Contexts.freeing Rules.goesDirectly Rules.contextRead Rules.answeringContext Rules.normalContext Rules.contextReply beginContext refusing dropping passing overfull stamping unstampedWrite switchRead stampedWrite directRead normalRead completion reply deliveredMessage asking beginOperation delivered advancing removing givingUp positionOf decided isMalformed decidedIn answerTo next started heldIn noneWait lookAt takesOut leftBy fits afterTaking adding edited moves indexOf listOf openCount openNumbers lastGiven noneOpen openPlace isOpen roomToOpen opening closing stampOf numberOf counterOf isAbove largerOf numberIn counterIn committedIn directIn slotObject slotStamp firstSlot secondSlot thirdSlot holdsObject countsAbove isFree holdsAbove freeSlot slotFor markAbove lookedUp nextStamp lessOne oneMore marksFor marking canMark marked stampFor countedTo countedMarks isCompleted clearedAt committing completed newSwitch marksIn Chain.chainPlace Chain.isLive Chain.memberAt Chain.headOf Chain.tailOf Chain.chosenBy allOf Chain.permits Chain.allPermit Chain.removed Chain.emptyCells Chain.numbered Chain.emptyStore Links.entries has objectsOf finishOrder Cells.entryCell Cells.valueCell Cells.stampCell Cells.storeCells Cells.liveCount Cells.orderAt Cells.members Cells.rowOf Cells.highestOf Cells.permittedBy Cells.appliedBy Cells.entryAt Cells.valueAt Cells.stampAt Cells.logged Cells.tabled Cells.raised Replicas.linkedWrites Replicas.accepts Replicas.nextPosition Replicas.applying Replicas.taking Replicas.pendingAt Replicas.pending Replicas.oldest Replicas.answersDirect
+computed = record { listing-history = refl; listing-order = refl; tail-removed = refl; tail-removed-order = refl; head-removed = refl; overtaken-order = refl; context-history = refl; context-order = refl; context-points = refl; several-marks = refl }
 
 -- a machine that drops every packet finishes nothing: the listing's history is not its history
 pub not-dropping : (h : History) → ((o : ℕ) → Finished h o → ⊥) → historyOf 2 row listing ≡ h → ⊥

@@ -9,7 +9,8 @@ use Rattle.history.proofs.Lists.{no-member}
 use Rattle.history.proofs.Entries.{Entry, Linearizes}
 use Rattle.history.proofs.Claim.{numbers, one-order-of}
 use Rattle.operations.proofs.Laws.{sized-none, last-none, none-open, once-none}
-use Rattle.switch.proofs.Laws.{sized-new, new-counter, new-committed}
+use Rattle.switch.proofs.Laws.{new-counter, new-committed}
+use Rattle.switch.proofs.Counted.{invariant-new}
 use Rattle.waiting.specs.declared.Packet.{Packet}
 use Rattle.waiting.specs.Waiting.{noneWait}
 use Rattle.waiting.proofs.Laws.{waits-none, exact-none}
@@ -50,7 +51,7 @@ good-start n low high row =
       ranged = λ o k i. absurd (no-member i);
       ends-once = tt;
     })
-    (omega (arith, new-counter 1)) (sized-new 1) (exact-none row)
+    (omega (arith, new-counter 1)) (invariant-new 1) (exact-none row)
 
 -- one step of the machine keeps the invariant
 pub good-after : {m : Machine} {h : History} {es : List Entry} → Good m h es → (x : Step) → Good (after m x) (noted x (answerTo m x) h) (orderNext m (after m x) (answerTo m x) h es)

@@ -18,7 +18,8 @@ use Rattle.history.proofs.Entries.{Entry, Unfinished}
 use Rattle.history.proofs.Growth.{older, begun-not-finished}
 use Rattle.switch.specs.Numbers.{numberIn, committedIn}
 use Rattle.switch.specs.DirtySet.{newSwitch}
-use Rattle.switch.proofs.Laws.{sized-new, new-counter, new-committed}
+use Rattle.switch.proofs.Laws.{new-counter, new-committed}
+use Rattle.switch.proofs.Counted.{invariant-new}
 use Rattle.operations.specs.{isOpen, lastGiven, roomToOpen, opening, closing}
 use Rattle.operations.proofs.Behind.{same-last}
 use Rattle.operations.proofs.Laws.{SizedOpens, sized-opening, last-opening, open-before, once-opening, last-closing}
@@ -153,7 +154,7 @@ module _ {m : Machine} {h : History} {es : List Entry} (g : Good m h es) (wide :
           (posted-add {s = m .store} (messages (m .waiting)) q (g .posted) (asked-placed (m .store) isWrite next x v))
           (books-begin g (cond isWrite (writes x v) (reads (x ∷ []))) (in-range isWrite x v small) room left)
           (omega (arith, g .counted, unstamped-append (messages (m .waiting)) (q ∷ []), asked-one isWrite next x v, last-opening (m .opens) next (g .books .cells) room))
-          (g .switch-sized) (waiting.exact-edited (m .waiting) _ (g .exact)))
+          (g .switch-holds) (waiting.exact-edited (m .waiting) _ (g .exact)))
 
 -- ---- a read of a whole context begins
 
@@ -208,7 +209,7 @@ module _ {m : Machine} {h : History} {es : List Entry} (g : Good m h es) (wide :
         last-opening (m .opens) number (g .books .cells) room,
         same-last (opens-holding (opening (m .opens) number) row (contextOf x)),
       ))
-      (g .switch-sized) (waiting.exact-edited (m .waiting) _ (g .exact)))
+      (g .switch-holds) (waiting.exact-edited (m .waiting) _ (g .exact)))
 
   good-begin-context : Begins (beginContext (m .opens) (held (m .waiting)) x)
   unfolding beginContext
@@ -316,7 +317,7 @@ module _ {m : Machine} {h : History} {es : List Entry} (g : Good m h es) (wide :
       (posted-add {s = m .store} (messages (m .waiting)) (q r) (g .posted) (family-placed family (m .store) was r (g .posted (q was) i)))
       (books-same (opens-holding l r v) (sized-holding l r v z) (g .books))
       (omega (arith, g .counted, unstamped-append (messages (m .waiting)) (q r ∷ []), asks-none (q r) (family-asks family r), same-last (opens-holding l r v)))
-      (g .switch-sized) (waiting.exact-edited (m .waiting) _ (g .exact)))
+      (g .switch-holds) (waiting.exact-edited (m .waiting) _ (g .exact)))
 
   good-repeat : Then (Repeat at) m h es (changingOpens (givenBy m) (repeated (m .opens) (held (m .waiting)) packet at))
   unfolding repeated copied
@@ -345,7 +346,7 @@ module _ {m : Machine} {h : History} {es : List Entry} (g : Good m h es) (wide :
           (good-of (g .issued) (g .log) (g .n) (messages (m .waiting) ++ p ∷ []) (added-packet (m .waiting) wide (g .exact) packet roomy)
           (core-add (g .core) p (g .core .packets .fine p i) u k) (g .shown)
           (posted-add {s = m .store} (messages (m .waiting)) p (g .posted) (g .posted p i)) (g .books)
-          (omega (arith, g .counted, unstamped-append (messages (m .waiting)) (p ∷ []), asks-none p u)) (g .switch-sized)
+          (omega (arith, g .counted, unstamped-append (messages (m .waiting)) (p ∷ []), asks-none p u)) (g .switch-holds)
           (waiting.exact-edited (m .waiting) _ (g .exact)))
 
 -- ---- the chain
@@ -355,7 +356,7 @@ good-store : {m : Machine} {h : History} {es : List Entry} (g : Good m h es) (t 
     → Good (machine (m .switch) t (m .opens) (edited (m .waiting) noEdit)) h es
 good-store {m} g t s e =
     good-of (g .issued) (g .log) (g .n) (messages (m .waiting)) (ap messages (edited-nothing (m .waiting))) (g .core) s
-    (λ q i. placed-same (m .store) t e q (g .posted q i)) (g .books) (g .counted) (g .switch-sized) (waiting.exact-edited (m .waiting) noEdit (g .exact))
+    (λ q i. placed-same (m .store) t e q (g .posted q i)) (g .books) (g .counted) (g .switch-holds) (waiting.exact-edited (m .waiting) noEdit (g .exact))
 
 module _ {m : Machine} {h : History} {es : List Entry} (g : Good m h es) (r : ℕ) where
   -- the oldest write of the replica's link, and the store when it has applied it
@@ -389,7 +390,7 @@ module _ {m : Machine} {h : History} {es : List Entry} (g : Good m h es) (r : �
       (added-two (m .waiting) wide (g .exact) (Reply (write .operation) (write .value) 0 noFreshness) (Completion (write .object) (write .stamp)) roomy) c s
       (λ q i. placed-same (m .store) store (members-applying (m .store) r write) q
       (elim (cases-append (messages (m .waiting)) i) [ inl j ↦ g .posted q j | inr j ↦ answer q j ]))
-      (g .books) (omega (arith, g .counted, unstamped-append (messages (m .waiting)) sent)) (g .switch-sized) (waiting.exact-edited (m .waiting) _ (g .exact)))
+      (g .books) (omega (arith, g .counted, unstamped-append (messages (m .waiting)) sent)) (g .switch-holds) (waiting.exact-edited (m .waiting) _ (g .exact)))
     where
       answer : (q : Message) → q ∈ Reply (write .operation) (write .value) 0 noFreshness ∷ Completion (write .object) (write .stamp) ∷ [] → Placed (m .store) q
       answer q j = elim (cases-cons j) [ inl e ↦ rw e tt | inr i ↦ rw (only-member i) tt ]
@@ -442,7 +443,7 @@ module _ {m : Machine} {h : History} {es : List Entry} (g : Good m h es) (r : �
           rw (t .5 .tail-has, g .shown .tail-has) (visible-removed (g .shown) r (t .0) (t .1) (t .2) (t .3) (t .4)) in
           rw shown
           (good-of (g .issued) (take (t .0) (g .log)) (t .1) (messages (m .waiting)) (ap messages (edited-nothing (m .waiting))) (rw append-nil at c) (t .5)
-          (λ q i. placed-removed (m .store) (g .shown .sized) (g .shown .falls) r live several q (g .posted q i)) (g .books) (g .counted) (g .switch-sized)
+          (λ q i. placed-removed (m .store) (g .shown .sized) (g .shown .falls) r live several q (g .posted q i)) (g .books) (g .counted) (g .switch-holds)
           (waiting.exact-edited (m .waiting) noEdit (g .exact)))
 
 -- ---- the switch is replaced, and an operation is given up
@@ -455,7 +456,7 @@ good-replace {m} {h} {es} g number =
     (λ e.
     rw (order-stays m (done m (changingSwitch (givenBy m) (switched (deciding noEdit) (newSwitch number)))) es refl)
     (good-of (g .issued) (g .log) (g .n) (messages (m .waiting)) (ap messages (edited-nothing (m .waiting))) (rw (new-committed number) (core-reset (g .core)))
-    (g .shown) (g .posted) (g .books) (omega (arith, g .counted, new-counter number)) (sized-new number) (waiting.exact-edited (m .waiting) noEdit (g .exact))))
+    (g .shown) (g .posted) (g .books) (omega (arith, g .counted, new-counter number)) (invariant-new number) (waiting.exact-edited (m .waiting) noEdit (g .exact))))
 
 good-give-up : {m : Machine} {h : History} {es : List Entry} (g : Good m h es) (o : ℕ) → Then (GiveUp o) m h es (changingOpens (givenBy m) (givingUp (m .opens) o))
 unfolding givingUp
@@ -465,7 +466,7 @@ good-give-up {m} {h} {es} g o =
     rw (order-stays m (machine (m .switch) (m .store) (closing (m .opens) o) (edited (m .waiting) noEdit)) es refl)
     (good-of (g .issued) (g .log) (g .n) (messages (m .waiting)) (ap messages (edited-nothing (m .waiting)))
     (core-rows (g .core) (λ q i r n. context-closing (m .opens) o r)) (g .shown) (g .posted)
-    (books-closed o still (g .books)) (omega (arith, g .counted, last-closing (m .opens) o (g .books .cells) still)) (g .switch-sized)
+    (books-closed o still (g .books)) (omega (arith, g .counted, last-closing (m .opens) o (g .books .cells) still)) (g .switch-holds)
     (waiting.exact-edited (m .waiting) noEdit (g .exact))))
     (λ e. good-refused (GiveUp o) NotOpen g)
 

@@ -46,7 +46,7 @@ use Rattle.machine.proofs.step as step
 
 -- the numbers of the switch, the store and the open operations
 abbrev pub Switch : RattleType
-Switch = Array u32 100
+Switch = Array u32 101
 
 abbrev pub Store : RattleType
 Store = Array u32 16673

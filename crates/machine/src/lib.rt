@@ -14,7 +14,7 @@ use switch::Switch;
 use waiting::Edit;
 use waiting::Packet;
 
-// What is decided of a step, and how many marks count then.
+// What is decided of a step, and the stored number of counting marks then.
 struct Decided {
     answer: Answer,
     edit: Edit,
@@ -71,7 +71,7 @@ fn position(x: Step) -> usize
     }
 }
 
-// What is decided of a step where `count` packets wait in so many lent places, with the marks that count then.
+// What is decided of a step where `count` packets wait in so many lent places, with the stored number of counting marks then.
 fn decide_marks(
     switch: &mut [u32; switch::CELLS],
     store: &mut [u32; store::CELLS],
@@ -87,7 +87,7 @@ fn decide_marks(
         × (now (opens .exit) ≡ decidedIn places (given (now (switch .entry)) (now (store .entry)) (now (opens .entry)) (heldIn count)) p x .opens) ⌝ }
 {
     let d = dispatch::decide(&mut *switch, &mut *store, &mut *opens, places, count, p, x);
-    let marks = switch::cells::count(switch);
+    let marks = switch::cells::marks(switch);
     let answer = d.answer;
     let edit = d.edit;
     Decided {

@@ -1,36 +1,37 @@
 -- Document 01, 'Points to prove, marked P': a table with a row for each, and one theorem, that every test of every row passes; and the same for document 02's Req 02, the
--- refusals of a read of a whole context.
+-- refusals of a read of a whole context, and Req 03, the stored number of counting marks.
 use mathlib.Core.Path.{_≡_, refl}
 use mathlib.Core.Bool.{Bool, true, false, cond, not}
 use mathlib.Core.List.{List, [], _∷_}
 use Prim.Native.Nat.{ℕ, _+_}
 use lib.Dec.{eqb}
-use lib.ListN.{getD, replicate}
+use lib.ListN.{getD, set, replicate}
 use Rattle.limits.specs as limits
 use Rattle.lists.specs.{indexOf, listOf, moves, allOf}
 use Rattle.contexts.specs.{placeOf, sizeOf, numbersOf, isCount, isObject, areObjects, standsFirst, areDifferent, emptyAt, isNaming, rowCell, sizeAt, freeRow}
 use Rattle.stamp.specs.Stamps.{stampOf, numberOf, counterOf, isAbove, largerOf}
-use Rattle.operations.specs.{noneOpen, openCount, lastGiven, roomToOpen, opening}
+use Rattle.operations.specs.{noneOpen, openCount, openNumbers, openPlace, isOpen, lastGiven, roomToOpen, opening}
 use Rattle.store.specs.{entryCell, valueCell, stampCell, storeCells, liveCount, orderAt, members, rowOf, highestOf, permittedBy, appliedBy, valueAt, stampAt, logged, tabled, raised}
-use Rattle.chain.specs.{chainPlace, isLive, memberAt, headOf, tailOf, chosenBy, removed, emptyCells, numbered, emptyStore}
-use Rattle.replicas.specs.Replicas.{linkedWrites, accepts, nextPosition, applying, taking, answersDirect}
-use Rattle.switch.specs.Numbers.{slots, numberIn, counterIn, committedIn, slotObject, slotStamp}
+use Rattle.chain.specs.{chainPlace, isLive, memberAt, headOf, tailOf, chosenBy, permits, allPermit, permitting, removed, emptyCells, numbered, emptyStore}
+use Rattle.replicas.specs.Replicas.{linkedWrites, accepts, nextPosition, applying, taking, pendingAt, pending, oldest, answersDirect}
+use Rattle.switch.specs.Numbers.{slots, marksCell, numberIn, counterIn, committedIn, directIn, marksIn, slotObject, slotStamp}
 use Rattle.slots.specs.{firstSlot, secondSlot, thirdSlot, holdsObject, countsAbove, isFree, holdsAbove, isCompleted}
-use Rattle.switch.specs.DirtySet.{freeSlot, slotFor, markAbove, lookedUp, nextStamp, marking, canMark, marked, clearedAt, completed, newSwitch, countedTo, countedMarks}
+use Rattle.switch.specs.DirtySet.{freeSlot, slotFor, markAbove, lookedUp, nextStamp, lessOne, oneMore, marksFor, marking, canMark, marked, stampFor, clearedAt, committing, completed, newSwitch, countedTo, countedMarks}
 use Rattle.waiting.specs.declared.Packet.{Packet}
 use Rattle.waiting.specs.Waiting.{WaitingList, waitingList, heldIn, held, blank, noneWait, lookAt, takesOut, leftBy, fits, afterTaking, adding, edited}
 use Rattle.protocol.specs.declared.Answer.{Answer}
 use Rattle.protocol.specs.declared.Answer.the-variants.{Done, Finished, FinishedContext, Refused}
 use Rattle.protocol.specs.declared.Message.{Message}
-use Rattle.protocol.specs.declared.Message.the-variants.{UnstampedWrite, StampedWrite, NormalRead, Reply}
+use Rattle.protocol.specs.declared.Message.the-variants.{UnstampedWrite, SwitchRead, StampedWrite, NormalRead, Completion, Reply}
 use Rattle.protocol.specs.declared.Decision.{Decision}
 use Rattle.protocol.specs.declared.Step.{Step}
-use Rattle.protocol.specs.declared.Step.the-variants.{BeginRead, BeginWrite, Deliver, Repeat, BeginContext}
+use Rattle.protocol.specs.declared.Step.the-variants.{Start, BeginRead, BeginWrite, Deliver, Lose, Repeat, Advance, Replace, Tell, Remove, GiveUp, BeginContext}
 use Rattle.protocol.specs.Answers.{refusalNumber, noFreshness}
 use Rattle.protocol.specs.Messages.{packetOf, messageOf, isUnstamped, isOfContext}
-use Rattle.protocol.specs.Decisions.{refusing, passing, overfull}
-use Rattle.protocol.specs.Delivery.{directRead, stampedWrite, deliveredMessage}
-use Rattle.protocol.specs.Steps.{Machine, machine, startRefused, startAnswer, beginOperation, beginContext, delivered, copied, repeated, positionOf, isMalformed, decided, decidedIn, answerTo, after}
+use Rattle.protocol.specs.Decisions.{refusing, dropping, passing, overfull}
+use Rattle.protocol.specs.Contexts.{released, leaving}
+use Rattle.protocol.specs.Delivery.{stamping, unstampedWrite, switchRead, stampedWrite, directRead, normalRead, completion, reply, deliveredMessage}
+use Rattle.protocol.specs.Steps.{Machine, machine, startRefused, startAnswer, asking, beginOperation, beginContext, delivered, lost, copied, repeated, advancing, replacing, telling, removing, givingUp, positionOf, isMalformed, decided, decidedIn, answerTo, after, steppedBy}
 
 -- a point of document 01: its number, and tests that must all pass
 pub record Point : Type 0 where
@@ -125,7 +126,19 @@ naming n xs = BeginContext (record {
   eighth = getD xs 7 0;
 })
 
--- ---- the table
+-- a switch without marks that has this number stored
+stored : ℕ → List ℕ
+stored n = set (newSwitch 1) marksCell n
+
+-- objects 5, 6 and 7 have the marks (1,1), (1,2) and (1,3)
+several : List ℕ
+several = markedAll (newSwitch 1) (5 ∷ 6 ∷ 7 ∷ [])
+
+-- the marks that a step hands back, with two replicas
+marksAfter : List ℕ → WaitingList → Step → ℕ
+marksAfter w l x = steppedBy (machine w (emptyStore 2) noneOpen l) x .marks
+
+-- ---- the tables
 
 -- P1 to P11, each under its sentence
 pub points : List Point
@@ -186,11 +199,47 @@ context-points =
     point 5 (gives (answerTo (lone (copies 64 writeOfP10)) (naming 2 (5 ∷ 6 ∷ []))) 6 ∷ gives (answerTo (lone (copies 63 writeOfP10)) (naming 2 (5 ∷ 6 ∷ []))) 0 ∷ []) ∷
     []
 
--- the definitions compute every row, and no row is missing
-pub points-hold : allHold 1 11 points ≡ true
-unfolding points allHold allTrue gives lone copies emptyList markedAll switchOfP4 switchOfP7 storeOfP6 readOfP6 sends writeOfP10 storeOfP11 stampOf numberOf counterOf isAbove largerOf noneOpen openCount lastGiven roomToOpen indexOf listOf moves entryCell valueCell stampCell storeCells liveCount orderAt members rowOf highestOf permittedBy appliedBy valueAt stampAt logged tabled raised chainPlace isLive memberAt headOf tailOf chosenBy removed emptyCells numbered emptyStore linkedWrites accepts nextPosition applying taking answersDirect numberIn counterIn committedIn slotObject slotStamp firstSlot secondSlot thirdSlot holdsObject countsAbove isFree holdsAbove freeSlot slotFor markAbove lookedUp nextStamp marking canMark marked isCompleted clearedAt completed newSwitch countedTo countedMarks heldIn noneWait lookAt takesOut leftBy fits afterTaking adding edited packetOf messageOf isUnstamped isOfContext refusing passing overfull directRead stampedWrite deliveredMessage startRefused startAnswer beginOperation delivered copied repeated positionOf isMalformed decided decidedIn answerTo after
-points-hold = refl
+-- Req 03, 'Every step but the delivery of an unstamped write or a completion and the replacing of the switch hands the stored number on, even a wrong one'
+pub marks-points : List Point
+marks-points =
+    -- a stored 7 where no mark counts is handed on by begins, refused or not
+    point 1
+    (eqb (marksAfter (stored 7) emptyList (BeginRead 5)) 7 ∷ eqb (marksAfter (stored 7) emptyList (BeginRead 1024)) 7 ∷
+    eqb (marksAfter (stored 7) emptyList (BeginWrite 5 9)) 7 ∷ eqb (marksAfter (stored 7) emptyList (naming 2 (5 ∷ 6 ∷ []))) 7 ∷
+    eqb (marksAfter (stored 7) emptyList (Start 2)) 7 ∷ []) ∷
+    -- .. by deliveries of other packets, by losses and by repeats
+    point 2
+    (eqb (marksAfter (stored 7) (copies 1 (SwitchRead 1 5)) (Deliver 0 0)) 7 ∷ eqb (marksAfter (stored 7) (copies 1 writeOfP10) (Deliver 0 0)) 7 ∷
+    eqb (marksAfter (stored 7) (copies 1 (Reply 1 9 0 noFreshness)) (Deliver 0 0)) 7 ∷ eqb (marksAfter (stored 7) (copies 1 (NormalRead 2 1 5 0)) (Deliver 0 0)) 7 ∷
+    eqb (marksAfter (stored 7) (copies 1 (UnstampedWrite 1 5 9)) (Lose 0)) 7 ∷ eqb (marksAfter (stored 7) (copies 1 (Completion 5 (stampOf 1 1))) (Repeat 0)) 7 ∷ []) ∷
+    -- .. by what is done to replicas and operations, and by a refused replacement
+    point 3
+    (eqb (marksAfter (stored 7) emptyList (Advance 2)) 7 ∷ eqb (marksAfter (stored 7) emptyList (Tell 1)) 7 ∷ eqb (marksAfter (stored 7) emptyList (Remove 1)) 7 ∷
+    eqb (marksAfter (stored 7) emptyList (GiveUp 1)) 7 ∷ eqb (marksAfter (stored 7) emptyList (Replace 1)) 7 ∷ []) ∷
+    -- .. and by a write that is dropped: no permit, no slot
+    point 4
+    (eqb (marksAfter (set (newSwitch 2) marksCell 7) (copies 1 (UnstampedWrite 1 5 9)) (Deliver 0 0)) 7 ∷
+    eqb (marksAfter (set switchOfP4 marksCell 7) (copies 1 (UnstampedWrite 1 0 9)) (Deliver 0 0)) 7 ∷ []) ∷
+    -- a mark of a slot that did not count adds one; of one that did, none. A number at the end of its width stays; so does 0 where one is taken off
+    point 5
+    (eqb (marksAfter (stored 7) (copies 1 (UnstampedWrite 1 5 9)) (Deliver 0 0)) 8 ∷ eqb (marksIn (markedAll (stored 7) (5 ∷ 5 ∷ []))) 8 ∷
+    eqb (marksIn (marked (stored 4294967295) 5)) 4294967295 ∷ eqb (marksIn (marked (set switchOfP7 marksCell 0) 5)) 1 ∷ []) ∷
+    -- a replaced switch has none, and a completion counts anew
+    point 6
+    (eqb (marksAfter (stored 7) emptyList (Replace 2)) 0 ∷ eqb (marksAfter (stored 7) (copies 1 (Completion 5 (stampOf 1 1))) (Deliver 0 0)) 0 ∷
+    eqb (marksAfter (set switchOfP4 marksCell 7) (copies 1 (Completion 5 0)) (Deliver 0 0)) 5 ∷ []) ∷
+    -- 'also when one completion stops several marks from counting': of three, two and three at once
+    point 7
+    (eqb (marksIn several) 3 ∷ eqb (marksAfter several (copies 1 (Completion 6 (stampOf 1 2))) (Deliver 0 0)) 1 ∷
+    eqb (marksAfter several (copies 1 (Completion 7 (stampOf 1 3))) (Deliver 0 0)) 0 ∷ []) ∷
+    []
 
-pub context-points-hold : allHold 1 5 context-points ≡ true
-unfolding context-points naming allHold allTrue gives lone copies emptyList markedAll switchOfP4 switchOfP7 storeOfP6 readOfP6 sends writeOfP10 storeOfP11 stampOf numberOf counterOf isAbove largerOf noneOpen openCount lastGiven roomToOpen indexOf listOf moves entryCell valueCell stampCell storeCells liveCount orderAt members rowOf highestOf permittedBy appliedBy valueAt stampAt logged tabled raised chainPlace isLive memberAt headOf tailOf chosenBy removed emptyCells numbered emptyStore linkedWrites accepts nextPosition applying taking answersDirect numberIn counterIn committedIn slotObject slotStamp firstSlot secondSlot thirdSlot holdsObject countsAbove isFree holdsAbove freeSlot slotFor markAbove lookedUp nextStamp marking canMark marked isCompleted clearedAt completed newSwitch countedTo countedMarks heldIn noneWait lookAt takesOut leftBy fits afterTaking adding edited packetOf messageOf isUnstamped isOfContext refusing passing overfull directRead stampedWrite deliveredMessage startRefused startAnswer beginOperation beginContext delivered copied repeated positionOf isMalformed decided decidedIn answerTo after allOf placeOf sizeOf numbersOf isCount isObject areObjects standsFirst areDifferent emptyAt isNaming rowCell sizeAt freeRow opening
-context-points-hold = refl
+-- the definitions compute every row, and no row is missing
+pub record PointsHold : Type 0 where
+  pub points-hold : allHold 1 11 points ≡ true
+  pub context-points-hold : allHold 1 5 context-points ≡ true
+  pub marks-points-hold : allHold 1 7 marks-points ≡ true
+
+pub holds : PointsHold
+unfolding points allHold allTrue gives lone copies emptyList markedAll switchOfP4 switchOfP7 storeOfP6 readOfP6 sends writeOfP10 storeOfP11 stampOf numberOf counterOf isAbove largerOf noneOpen openCount lastGiven roomToOpen indexOf listOf moves entryCell valueCell stampCell storeCells liveCount orderAt members rowOf highestOf permittedBy appliedBy valueAt stampAt logged tabled raised chainPlace isLive memberAt headOf tailOf chosenBy removed emptyCells numbered emptyStore linkedWrites accepts nextPosition applying taking answersDirect numberIn counterIn committedIn slotObject slotStamp firstSlot secondSlot thirdSlot holdsObject countsAbove isFree holdsAbove freeSlot slotFor markAbove lookedUp nextStamp marking canMark marked isCompleted clearedAt completed newSwitch countedTo countedMarks heldIn noneWait lookAt takesOut leftBy fits afterTaking adding edited packetOf messageOf isUnstamped isOfContext refusing passing overfull directRead stampedWrite deliveredMessage startRefused startAnswer beginOperation delivered copied repeated positionOf isMalformed decided decidedIn answerTo after context-points naming beginContext allOf placeOf sizeOf numbersOf isCount isObject areObjects standsFirst areDifferent emptyAt isNaming rowCell sizeAt freeRow opening marks-points stored several marksAfter marksIn lessOne oneMore marksFor committing leaving released dropping stamping unstampedWrite switchRead normalRead completion reply lost advancing pending pendingAt oldest replacing telling permitting removing givingUp stampFor asking allPermit permits directIn isOpen openPlace openNumbers
+holds = record { points-hold = refl; context-points-hold = refl; marks-points-hold = refl }

@@ -12,8 +12,8 @@ use Rattle.store.specs.declared.Write.{Write}
 use Rattle.store.specs.{liveCount}
 use Rattle.chain.specs.{isLive, tailOf, permitting, removed, emptyStore}
 use Rattle.replicas.specs.Replicas.{applying, pending, oldest}
-use Rattle.switch.specs.Numbers.{numberIn}
-use Rattle.switch.specs.DirtySet.{newSwitch, countedMarks}
+use Rattle.switch.specs.Numbers.{numberIn, marksIn}
+use Rattle.switch.specs.DirtySet.{newSwitch}
 use Rattle.waiting.specs.declared.Packet.{Packet}
 use Rattle.waiting.specs.declared.Edit.{Edit}
 use Rattle.waiting.specs.Waiting.{WaitingList, held, lookAt, edited, noneWait}
@@ -233,6 +233,6 @@ after m x = record {
   waiting = edited (m .waiting) (outcomeOf m x .decision .edit);
 }
 
--- what a step hands back: its answer, how many packets then wait, and 'counting marks (counted over the slots)'
+-- what a step hands back: its answer, how many packets then wait, and the stored number of counting marks (Req 03)
 abbrev pub steppedBy : Machine → Step → Stepped
-steppedBy m x = record { answer = answerTo m x; count = after m x .waiting .count; marks = countedMarks (after m x .switch) }
+steppedBy m x = record { answer = answerTo m x; count = after m x .waiting .count; marks = marksIn (after m x .switch) }

@@ -12,9 +12,9 @@ use lib.Seq.{getD-set-same, getD-set-other}
 use borrow.Author.Tests.{eqb-false, ne-eqb, ltb-true}
 use Rattle.stamp.specs.Stamps.{stampOf, isAbove, largerOf}
 use Rattle.stamp.proofs.Laws.{lt-above, le-above, above-false}
-use Rattle.switch.specs.Numbers.{slots, switchCells, numberIn, counterIn, committedIn, directIn, slotObject, slotStamp}
+use Rattle.switch.specs.Numbers.{slots, switchCells, numberIn, counterIn, committedIn, directIn, marksIn, slotObject, slotStamp}
 use Rattle.slots.specs.{firstSlot, secondSlot, thirdSlot, holdsObject, isCompleted, countsAbove}
-use Rattle.switch.specs.DirtySet.{slotFor, nextStamp, marking, canMark, marked, stampFor, clearedAt, completed, newSwitch, countedTo, countedMarks}
+use Rattle.switch.specs.DirtySet.{slotFor, nextStamp, marksFor, slotMarked, marking, canMark, marked, stampFor, clearedAt, committing, completed, newSwitch, countedMarks}
 use Rattle.switch.proofs.FirstSlot.{slots-rise}
 
 -- as many numbers as the code's type gives
@@ -59,42 +59,55 @@ stamp-used w o n = go (marked-cases w o)
 
 -- ---- a number that a mark leaves as it is
 
-marking-kept : (w : List ℕ) (o i j : ℕ) → (j ≡ 1 → ⊥) → (j ≡ 4 + i → ⊥) → (j ≡ 52 + i → ⊥) → getD (marking w o i) j 0 ≡ getD w j 0
+-- what a mark does beside the stored number of counting marks
+marking-beside : (w : List ℕ) (o i j : ℕ) → (j ≡ 100 → ⊥) → getD (marking w o i) j 0 ≡ getD (slotMarked w o i) j 0
 unfolding marking
-marking-kept w o i j a b c =
+marking-beside w o i j d = getD-set-other (slotMarked w o i) 100 j (marksFor w i (nextStamp w)) 0 d
+
+marking-kept : (w : List ℕ) (o i j : ℕ) → (j ≡ 1 → ⊥) → (j ≡ 4 + i → ⊥) → (j ≡ 52 + i → ⊥) → (j ≡ 100 → ⊥) → getD (marking w o i) j 0 ≡ getD w j 0
+marking-kept w o i j a b c d =
+    marking-beside w o i j d ∙
     getD-set-other (set (set w 1 (counterIn w + 1)) (4 + i) o) (52 + i) j (nextStamp w) 0 c ∙
     getD-set-other (set w 1 (counterIn w + 1)) (4 + i) j o 0 b ∙
     getD-set-other w 1 j (counterIn w + 1) 0 a
 
--- the three that it changes
+-- the four that it changes
 module _ (w : List ℕ) (o i : ℕ) (z : SizedSwitch w) (h : i < slots) where
   pub counter-marking : (counterIn w ≡ 65535 → ⊥) → counterIn (marking w o i) ≡ counterIn w + 1
-  unfolding marking counterIn
+  unfolding counterIn
   counter-marking n =
       let cell : getD (marking w o i) 1 0 ≡ getD w 1 0 % 65536 + 1 =
+      marking-beside w o i 1 (λ e. omega arith) ∙
       getD-set-other (set (set w 1 (counterIn w + 1)) (4 + i) o) (52 + i) 1 (nextStamp w) 0 (λ e. omega arith) ∙
       getD-set-other (set w 1 (counterIn w + 1)) (4 + i) 1 o 0 (λ e. omega arith) ∙
       getD-set-same w 1 (counterIn w + 1) 0 (omega arith) in
       rw cell (omega (arith, n))
 
   pub object-marking : slotObject (marking w o i) i ≡ o
-  unfolding marking slotObject
+  unfolding slotObject
   object-marking =
+      marking-beside w o i (4 + i) (λ e. omega arith) ∙
       getD-set-other (set (set w 1 (counterIn w + 1)) (4 + i) o) (52 + i) (4 + i) (nextStamp w) 0 (λ e. omega arith) ∙
       getD-set-same (set w 1 (counterIn w + 1)) (4 + i) o 0 (simp length-set (omega arith))
 
   pub stamp-marking : slotStamp (marking w o i) i ≡ nextStamp w
-  unfolding marking slotStamp
-  stamp-marking = getD-set-same (set (set w 1 (counterIn w + 1)) (4 + i) o) (52 + i) (nextStamp w) 0 (simp length-set (omega arith))
+  unfolding slotStamp
+  stamp-marking =
+      marking-beside w o i (52 + i) (λ e. omega arith) ∙
+      getD-set-same (set (set w 1 (counterIn w + 1)) (4 + i) o) (52 + i) (nextStamp w) 0 (simp length-set (omega arith))
+
+  pub marks-marking : marksIn (marking w o i) ≡ marksFor w i (nextStamp w)
+  unfolding marking marksIn
+  marks-marking = getD-set-same (slotMarked w o i) 100 (marksFor w i (nextStamp w)) 0 (simp length-set (omega arith))
 
   -- every other slot stays
   pub object-unmarked : (j : ℕ) → j < slots → (j ≡ i → ⊥) → slotObject (marking w o i) j ≡ slotObject w j
   unfolding slotObject
-  object-unmarked j b n = marking-kept w o i (4 + j) (λ e. omega arith) (λ e. n (omega arith)) (λ e. omega arith)
+  object-unmarked j b n = marking-kept w o i (4 + j) (λ e. omega arith) (λ e. n (omega arith)) (λ e. omega arith) (λ e. omega arith)
 
   pub stamp-unmarked : (j : ℕ) → j < slots → (j ≡ i → ⊥) → slotStamp (marking w o i) j ≡ slotStamp w j
   unfolding slotStamp
-  stamp-unmarked j b n = marking-kept w o i (52 + j) (λ e. omega arith) (λ e. omega arith) (λ e. n (omega arith))
+  stamp-unmarked j b n = marking-kept w o i (52 + j) (λ e. omega arith) (λ e. omega arith) (λ e. n (omega arith)) (λ e. omega arith)
 
 -- ---- after a mark
 
@@ -110,18 +123,20 @@ pub marked-number : (w : List ℕ) (o : ℕ) → numberIn (marked w o) ≡ numbe
 unfolding numberIn
 marked-number w o =
     by-marked (λ v. getD v 0 0 % 65536 ≡ getD w 0 0 % 65536) w o refl
-    (ap (λ (n : ℕ). n % 65536) (marking-kept w o (slotFor w o) 0 (λ e. omega arith) (λ e. omega arith) (λ e. omega arith)))
+    (ap (λ (n : ℕ). n % 65536) (marking-kept w o (slotFor w o) 0 (λ e. omega arith) (λ e. omega arith) (λ e. omega arith) (λ e. omega arith)))
+
+pub marking-committed : (w : List ℕ) (o i : ℕ) → committedIn (marking w o i) ≡ committedIn w
+unfolding committedIn
+marking-committed w o i = marking-kept w o i 2 (λ e. omega arith) (λ e. omega arith) (λ e. omega arith) (λ e. omega arith)
 
 pub marked-committed : (w : List ℕ) (o : ℕ) → committedIn (marked w o) ≡ committedIn w
-unfolding committedIn
-marked-committed w o =
-    by-marked (λ v. getD v 2 0 ≡ getD w 2 0) w o refl (marking-kept w o (slotFor w o) 2 (λ e. omega arith) (λ e. omega arith) (λ e. omega arith))
+marked-committed w o = by-marked (λ v. committedIn v ≡ committedIn w) w o refl (marking-committed w o (slotFor w o))
 
 pub marked-direct : (w : List ℕ) (o : ℕ) → directIn (marked w o) ≡ directIn w
 unfolding directIn
 marked-direct w o =
     by-marked (λ v. not (eqb (getD v 3 0) 0) ≡ not (eqb (getD w 3 0) 0)) w o refl
-    (ap (λ (n : ℕ). not (eqb n 0)) (marking-kept w o (slotFor w o) 3 (λ e. omega arith) (λ e. omega arith) (λ e. omega arith)))
+    (ap (λ (n : ℕ). not (eqb n 0)) (marking-kept w o (slotFor w o) 3 (λ e. omega arith) (λ e. omega arith) (λ e. omega arith) (λ e. omega arith)))
 
 -- the counter rises by one exactly if the write gets a stamp
 pub marked-counter : (w : List ℕ) (o : ℕ) → SizedSwitch w → counterIn (marked w o) ≡ cond (eqb (stampFor w o) 0) (counterIn w) (counterIn w + 1)
@@ -212,10 +227,15 @@ completed-covered w o t z =
     let both = covered-twice one two in
     covered-twice both (cleared-covered (clearedAt (clearedAt w o t (firstSlot o)) o t (secondSlot o)) o t (thirdSlot o) (both .same-length ∙ z) (omega (arith, rise)))
 
--- the two numbers that a completion sets beside the slots
-completed-other : (w : List ℕ) (o t j : ℕ) → (j ≡ 2 → ⊥) → (j ≡ 3 → ⊥) → getD (completed w o t) j 0 ≡ getD (clearedOf w o t) j 0
+-- the three numbers that a completion sets beside the slots
+pub completed-beside : (w : List ℕ) (o t j : ℕ) → (j ≡ 100 → ⊥) → getD (completed w o t) j 0 ≡ getD (committing w o t) j 0
 unfolding completed
-completed-other w o t j a b =
+completed-beside w o t j d = getD-set-other (committing w o t) 100 j (countedMarks (committing w o t)) 0 d
+
+completed-other : (w : List ℕ) (o t j : ℕ) → (j ≡ 2 → ⊥) → (j ≡ 3 → ⊥) → (j ≡ 100 → ⊥) → getD (completed w o t) j 0 ≡ getD (clearedOf w o t) j 0
+unfolding committing
+completed-other w o t j a b d =
+    completed-beside w o t j d ∙
     getD-set-other (set (clearedOf w o t) 2 (largerOf (committedIn w) t)) 3 j 1 0 b ∙
     getD-set-other (clearedOf w o t) 2 j (largerOf (committedIn w) t) 0 a
 
@@ -223,51 +243,62 @@ module _ (w : List ℕ) (o t : ℕ) (z : SizedSwitch w) where
   sized-cleared : length (clearedOf w o t) ≡ switchCells
   sized-cleared = completed-covered w o t z .same-length ∙ z
 
+  sized-committing : SizedSwitch (committing w o t)
+  unfolding committing
+  sized-committing = simp length-set sized-cleared
+
   pub sized-completed : SizedSwitch (completed w o t)
   unfolding completed
-  sized-completed = simp length-set sized-cleared
+  sized-completed = simp length-set sized-committing
 
   pub completed-number : numberIn (completed w o t) ≡ numberIn w
   unfolding numberIn
   completed-number =
       ap (λ (n : ℕ). n % 65536)
-      (completed-other w o t 0 (λ e. omega arith) (λ e. omega arith) ∙ completed-covered w o t z .same 0 (omega arith))
+      (completed-other w o t 0 (λ e. omega arith) (λ e. omega arith) (λ e. omega arith) ∙ completed-covered w o t z .same 0 (omega arith))
 
   pub completed-counter : counterIn (completed w o t) ≡ counterIn w
   unfolding counterIn
   completed-counter =
       ap (λ (n : ℕ). n % 65536)
-      (completed-other w o t 1 (λ e. omega arith) (λ e. omega arith) ∙ completed-covered w o t z .same 1 (omega arith))
+      (completed-other w o t 1 (λ e. omega arith) (λ e. omega arith) (λ e. omega arith) ∙ completed-covered w o t z .same 1 (omega arith))
 
   pub completed-committed : committedIn (completed w o t) ≡ largerOf (committedIn w) t
-  unfolding completed committedIn
+  unfolding committing committedIn
   completed-committed =
+      completed-beside w o t 2 (λ e. omega arith) ∙
       getD-set-other (set (clearedOf w o t) 2 (largerOf (committedIn w) t)) 3 2 1 0 (λ e. omega arith) ∙
       getD-set-same (clearedOf w o t) 2 (largerOf (committedIn w) t) 0 (omega (arith, sized-cleared))
 
   pub completed-direct : directIn (completed w o t) ≡ true
-  unfolding completed directIn
+  unfolding committing directIn
   completed-direct =
       ap (λ (n : ℕ). not (eqb n 0))
-      (getD-set-same (set (clearedOf w o t) 2 (largerOf (committedIn w) t)) 3 1 0 (simp length-set (omega (arith, sized-cleared))))
+      (completed-beside w o t 3 (λ e. omega arith) ∙
+      getD-set-same (set (clearedOf w o t) 2 (largerOf (committedIn w) t)) 3 1 0 (simp length-set (omega (arith, sized-cleared))))
+
+  -- the stored number is counted anew
+  pub marks-completed : marksIn (completed w o t) ≡ countedMarks (committing w o t)
+  unfolding completed marksIn
+  marks-completed = getD-set-same (committing w o t) 100 (countedMarks (committing w o t)) 0 (omega (arith, sized-committing))
 
   -- each slot keeps its object; it keeps its stamp, or was emptied and had one that the completion covers
   pub object-completed : (i : ℕ) → i < slots → slotObject (completed w o t) i ≡ slotObject w i
   unfolding slotObject
   object-completed i b =
-      completed-other w o t (4 + i) (λ e. omega arith) (λ e. omega arith) ∙ completed-covered w o t z .same (4 + i) (omega arith)
+      completed-other w o t (4 + i) (λ e. omega arith) (λ e. omega arith) (λ e. omega arith) ∙ completed-covered w o t z .same (4 + i) (omega arith)
 
-  stamp-cleared : (i : ℕ) → slotStamp (completed w o t) i ≡ slotStamp (clearedOf w o t) i
+  stamp-cleared : (i : ℕ) → i < slots → slotStamp (completed w o t) i ≡ slotStamp (clearedOf w o t) i
   unfolding slotStamp
-  stamp-cleared i = completed-other w o t (52 + i) (λ e. omega arith) (λ e. omega arith)
+  stamp-cleared i b = completed-other w o t (52 + i) (λ e. omega arith) (λ e. omega arith) (λ e. omega arith)
 
-  pub stamp-completed : (i : ℕ) → (slotStamp (completed w o t) i ≡ slotStamp w i) ⊎ ((slotStamp (completed w o t) i ≡ 0) × (slotStamp w i ≤ t))
-  stamp-completed i = go (completed-covered w o t z .stamps i)
+  pub stamp-completed : (i : ℕ) → i < slots → (slotStamp (completed w o t) i ≡ slotStamp w i) ⊎ ((slotStamp (completed w o t) i ≡ 0) × (slotStamp w i ≤ t))
+  stamp-completed i b = go (completed-covered w o t z .stamps i)
     where
       go : (slotStamp (clearedOf w o t) i ≡ slotStamp w i) ⊎ ((slotStamp (clearedOf w o t) i ≡ 0) × (slotStamp w i ≤ t)) →
           (slotStamp (completed w o t) i ≡ slotStamp w i) ⊎ ((slotStamp (completed w o t) i ≡ 0) × (slotStamp w i ≤ t))
-      go (inl e) = inl (stamp-cleared i ∙ e)
-      go (inr e) = inr (stamp-cleared i ∙ e .0, e .1)
+      go (inl e) = inl (stamp-cleared i b ∙ e)
+      go (inr e) = inr (stamp-cleared i b ∙ e .0, e .1)
 
 -- ---- a new switch
 
@@ -296,15 +327,9 @@ pub new-committed : (n : ℕ) → committedIn (newSwitch n) ≡ 0
 unfolding committedIn
 new-committed n = new-other n 2 (λ e. omega arith)
 
--- no mark counts
-new-counted-to : (n c k : ℕ) → countedTo (newSwitch n) c k ≡ 0
-unfolding countedTo countsAbove slotStamp
-new-counted-to n c zero = refl
-new-counted-to n c (suc k) = rw (new-other n (52 + k) (λ e. omega arith), le-above 0 c (omega arith)) (new-counted-to n c k)
-
-pub new-counted : (n : ℕ) → countedMarks (newSwitch n) ≡ 0
-unfolding countedMarks
-new-counted n = new-counted-to n (committedIn (newSwitch n)) slots
+pub new-marks : (n : ℕ) → marksIn (newSwitch n) ≡ 0
+unfolding marksIn
+new-marks n = new-other n 100 (λ e. omega arith)
 
 pub new-direct : (n : ℕ) → directIn (newSwitch n) ≡ false
 unfolding directIn

@@ -2,3 +2,4 @@
 pub mod FirstSlot
 pub mod Laws
 pub mod Lookup
+pub mod Counted

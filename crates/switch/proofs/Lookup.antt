@@ -209,7 +209,7 @@ unfolding lookedUp markAbove
 lookup-completed w o t p z =
     rw (completed-committed w o t z)
     (first-same p (test p c (completed w o t)) (test p c w) (slotStamp (completed w o t)) (slotStamp w) 0
-    (λ j m. same j m (stamp-completed w o t z j)) (λ j m e. found j e (stamp-completed w o t z j)))
+    (λ j m. same j m (stamp-completed w o t z j (own-below p j m))) (λ j m e. found j e (stamp-completed w o t z j (own-below p j m))))
   where
     c : ℕ
     c = largerOf (committedIn w) t

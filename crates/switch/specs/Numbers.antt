@@ -1,5 +1,5 @@
 -- The numbers of the switch, which the caller lends: where each lies. Document 01, 'Parts and how big they are': 'number (1 at the start), counter,
--- last-committed stamp, a direct-reads sign (off at the start), and the marks'.
+-- last-committed stamp, a direct-reads sign (off at the start), and the marks'. Req 03: 'The switch keeps the number of counting marks as part of its state.'
 use mathlib.Core.Bool.{Bool, not}
 use mathlib.Core.List.{List}
 use Prim.Native.Nat.{ℕ, _+_, _%_}
@@ -29,8 +29,12 @@ objectCell i = 4 + i
 abbrev pub slotStampCell : ℕ → ℕ
 slotStampCell i = 52 + i
 
+-- the stored number of counting marks
+abbrev pub marksCell : ℕ
+marksCell = 100
+
 abbrev pub switchCells : ℕ
-switchCells = 100
+switchCells = 101
 
 -- what is read there; a number and a counter have 16 bits
 unfoldable pub numberIn : List ℕ → ℕ
@@ -44,6 +48,9 @@ committedIn w = getD w committedCell 0
 
 unfoldable pub directIn : List ℕ → Bool
 directIn w = not (eqb (getD w directCell 0) 0)
+
+unfoldable pub marksIn : List ℕ → ℕ
+marksIn w = getD w marksCell 0
 
 unfoldable pub slotObject : List ℕ → ℕ → ℕ
 slotObject w i = getD w (objectCell i) 0

@@ -1,15 +1,16 @@
 // The switch's numbers where the caller lends them.
 ghost use mathlib.Core.Path.{_≡_};
 ghost use Prim.Native.Nat.{_+_, _<_};
-ghost use Rattle.switch.specs.Numbers.{numberIn, counterIn, committedIn, directIn, slotObject, slotStamp};
+ghost use Rattle.switch.specs.Numbers.{numberIn, counterIn, committedIn, directIn, marksIn, slotObject, slotStamp};
 ghost use lib.ListN.{set};
 ghost use Rattle.slots.specs.{holdsAbove};
-ghost use Rattle.switch.specs.DirtySet.{holdsAt, freeSlot, slotFor, lookedUp, marked, stampFor, clearedAt, completed, countedMarks};
+ghost use Rattle.switch.specs.DirtySet.{holdsAt, freeSlot, slotFor, lookedUp, lessOne, oneMore, marksFor, marked, stampFor, clearedAt, committing, completed, countedMarks};
 ghost use Rattle.switch.specs.Values.{switchOf};
 use crate::CELLS;
 use crate::COMMITTED;
 use crate::COUNTER;
 use crate::DIRECT;
+use crate::MARKS;
 use crate::NUMBER;
 use crate::OBJECTS;
 use crate::SLOTS;
@@ -17,6 +18,7 @@ use crate::STAMPS;
 use crate::Switch;
 use limits::Counter;
 use limits::LAST_COUNTER;
+use limits::LAST_MARKS;
 use limits::Number;
 use limits::Object;
 use limits::Stamp;
@@ -52,6 +54,13 @@ pub fn is_direct(cells: &[u32; CELLS]) -> bool
     ensures { λ r. ⌜ r ≡ directIn (now (cells .entry)) ⌝ }
 {
     cells[DIRECT] != 0
+}
+
+// The stored number of marks that count.
+pub fn marks(cells: &[u32; CELLS]) -> u32
+    ensures { λ r. ⌜ r ≡ marksIn (now (cells .entry)) ⌝ }
+{
+    cells[MARKS]
 }
 
 fn object_at(cells: &[u32; CELLS], i: usize) -> u32
@@ -104,23 +113,6 @@ pub fn lookup(cells: &[u32; CELLS], o: Object) -> Stamp
     0
 }
 
-// How many marks count. A slot whose mark counts adds 65,536 and its own number to the sum: of ones the compiler would make a mask and count its bits, which takes longer
-// than adding vectors.
-pub fn count(cells: &[u32; CELLS]) -> u32
-    ensures { λ r. ⌜ r ≡ countedMarks (now (cells .entry)) ⌝ }
-{
-    let c = committed(cells);
-    let mut sum: u32 = 0;
-    let mut i: usize = 0;
-    while i < SLOTS {
-        if stamp::above(stamp_at(cells, i), c) {
-            sum += 65536 + i as u32;
-        }
-        i += 1;
-    }
-    sum / 65536
-}
-
 // ---- a mark
 
 fn free_slot(cells: &[u32; CELLS], o: Object) -> usize
@@ -161,6 +153,40 @@ fn slot_for(cells: &[u32; CELLS], o: Object) -> usize
     free_slot(cells, o)
 }
 
+fn less_one(b: bool, n: u32) -> u32
+    ensures { λ r. ⌜ r ≡ lessOne b n ⌝ }
+{
+    if b {
+        if n == 0 {
+            return n;
+        }
+        return n - 1;
+    }
+    n
+}
+
+fn one_more(b: bool, n: u32) -> u32
+    ensures { λ r. ⌜ r ≡ oneMore b n ⌝ }
+{
+    if b {
+        if n == LAST_MARKS {
+            return n;
+        }
+        return n + 1;
+    }
+    n
+}
+
+// The number of counting marks when slot i takes this stamp, without a look at the other slots.
+fn marks_for(cells: &[u32; CELLS], i: usize, stamp: Stamp) -> u32
+    requires { ⌜ i < 48 ⌝ }
+    ensures { λ r. ⌜ r ≡ marksFor (now (cells .entry)) i stamp ⌝ }
+{
+    let c = committed(cells);
+    let others = less_one(stamp::above(stamp_at(cells, i), c), marks(cells));
+    one_more(stamp::above(stamp, c), others)
+}
+
 // Slot i takes the object and its write's stamp, and the counter moves on.
 fn put_mark(cells: &mut [u32; CELLS], o: Object, i: usize, counter: Counter, stamp: Stamp)
     requires { ⌜ (i < 48) × (counter < 65535) ⌝ }
@@ -184,7 +210,9 @@ pub fn mark(cells: &mut [u32; CELLS], o: Object) -> Stamp
         return 0;
     }
     let stamp = stamp::make(number(cells), counter + 1);
+    let marks = marks_for(cells, at, stamp);
     put_mark(&mut *cells, o, at, counter, stamp);
+    cells[MARKS] = marks;
     stamp
 }
 
@@ -200,8 +228,9 @@ fn clear(cells: &mut [u32; CELLS], o: Object, t: Stamp, i: usize)
     }
 }
 
-pub fn complete(cells: &mut [u32; CELLS], o: Object, t: Stamp)
-    ensures { λ _. ⌜ now (cells .exit) ≡ completed (now (cells .entry)) o t ⌝ }
+// The marks that it covers are cleared, last-committed rises, and direct reads are on.
+fn commit(cells: &mut [u32; CELLS], o: Object, t: Stamp)
+    ensures { λ _. ⌜ now (cells .exit) ≡ committing (now (cells .entry)) o t ⌝ }
 {
     let c = stamp::larger(committed(cells), t);
     clear(&mut *cells, o, t, first_slot(o));
@@ -209,6 +238,38 @@ pub fn complete(cells: &mut [u32; CELLS], o: Object, t: Stamp)
     clear(&mut *cells, o, t, third_slot(o));
     cells[COMMITTED] = c;
     cells[DIRECT] = 1;
+}
+
+// How many marks count, over all slots. A slot whose mark counts adds 65,536 and its own number to the sum: of ones the compiler would make a mask and count its bits, which takes longer
+// than adding vectors.
+fn count(cells: &[u32; CELLS]) -> u32
+    ensures { λ r. ⌜ r ≡ countedMarks (now (cells .entry)) ⌝ }
+{
+    let c = committed(cells);
+    let mut sum: u32 = 0;
+    let mut i: usize = 0;
+    while i < SLOTS {
+        if stamp::above(stamp_at(cells, i), c) {
+            sum += 65536 + i as u32;
+        }
+        i += 1;
+    }
+    sum / 65536
+}
+
+// The stored number, counted anew: a completion may stop several marks at once.
+fn recount(cells: &mut [u32; CELLS])
+    ensures { λ _. ⌜ now (cells .exit) ≡ set (now (cells .entry)) 100 (countedMarks (now (cells .entry))) ⌝ }
+{
+    let marks = count(cells);
+    cells[MARKS] = marks;
+}
+
+pub fn complete(cells: &mut [u32; CELLS], o: Object, t: Stamp)
+    ensures { λ _. ⌜ now (cells .exit) ≡ completed (now (cells .entry)) o t ⌝ }
+{
+    commit(&mut *cells, o, t);
+    recount(&mut *cells);
 }
 
 // ---- the whole switch

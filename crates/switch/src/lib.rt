@@ -1,5 +1,5 @@
-// The switch: its number and counter, the last-committed stamp, the direct-reads sign, and the dirty set of three stages of 16 slots. Its numbers lie in an array
-// that the caller lends: src/cells.rt reads and changes them there. Here is the switch as a value.
+// The switch: its number and counter, the last-committed stamp, the direct-reads sign, the dirty set of three stages of 16 slots, and the number of marks that count. Its numbers lie
+// in an array that the caller lends: src/cells.rt reads and changes them there. Here is the switch as a value.
 ghost use mathlib.Core.Path.{_≡_};
 ghost use Rattle.switch.specs.DirtySet.{completed, newSwitch};
 ghost use Rattle.switch.specs.Values.{switchOf, markedSwitch};
@@ -25,7 +25,9 @@ pub const OBJECTS: usize = 4;
 
 pub const STAMPS: usize = 52;
 
-pub const CELLS: usize = 100;
+pub const MARKS: usize = 100;
+
+pub const CELLS: usize = 101;
 
 // The whole switch, slots included.
 pub struct Switch {

@@ -5,7 +5,7 @@ use Prim.Native.Nat.{ℕ, _+_}
 use lib.Dec.{eqb, ltb}
 use lib.ListN.{length}
 use Rattle.limits.specs as limits
-use Rattle.switch.specs.DirtySet.{countedMarks}
+use Rattle.switch.specs.Numbers.{marksIn}
 use Rattle.waiting.specs.Waiting.{held}
 use Rattle.protocol.specs.declared.Refusal.the-variants.{Format, InputTooLong}
 use Rattle.protocol.specs.declared.Step.{Step}
@@ -76,9 +76,9 @@ firstPrinted m input =
 unfoldable pub nextNumber : ℕ → ℕ
 nextNumber k = cond (eqb k 4294967295) k (k + 1)
 
--- 'packets waiting, counting marks (counted over the slots)' are those after the step
+-- 'packets waiting, counting marks' are those after the step; Req 03: the line prints the stored number
 abbrev pub lineAfter : ℕ → Machine → Step → List ℕ
-lineAfter k m x = lineOf k (answerTo m x) (held (after m x .waiting)) (countedMarks (after m x .switch))
+lineAfter k m x = lineOf k (answerTo m x) (held (after m x .waiting)) (marksIn (after m x .switch))
 
 abbrev pub overAt : Standing → Standing
 overAt u = standing (u .model) (u .at) (u .number) true

@@ -8,7 +8,7 @@ use native.Mathlib.Omega.{arith}
 use lib.Dec.{eqb}
 use lib.ListN.{length}
 use borrow.Author.Tests.{eq-eqb, ne-eqb, le-ltb}
-use Rattle.switch.specs.DirtySet.{countedMarks}
+use Rattle.switch.specs.Numbers.{marksIn}
 use Rattle.waiting.specs.Waiting.{heldIn, held}
 use Rattle.contexts.specs.declared.Context.{Context}
 use Rattle.contexts.specs.{placesOf}
@@ -69,11 +69,11 @@ asked-whole bytes x e = ap (λ (f : Found). wholeStep f (length bytes)) e ∙ rw
 
 -- after a step: the line of crates/runs/specs/Runs.antt, `lineAfter`
 pub step-line : (k : ℕ) (m : Machine) (bytes : List ℕ) (x : Step) → Counted (m .opens) → recordAt bytes 0 ≡ Found.Record x (length bytes) →
-    lineIn k (sessionAfter (steppedBy m (askedBy bytes))) ≡ lineOf k (answerTo m x) (held (after m x .waiting)) (countedMarks (after m x .switch))
+    lineIn k (sessionAfter (steppedBy m (askedBy bytes))) ≡ lineOf k (answerTo m x) (held (after m x .waiting)) (marksIn (after m x .switch))
 unfolding sessionAfter
 step-line k m bytes x c e =
     ap (λ (y : Step). lineIn k (sessionAfter (steppedBy m y))) (asked-whole bytes x e)
-    ∙ line-of k (answerTo m x) (after m x .waiting .count) (countedMarks (after m x .switch)) (finished-from-1 m x c) (context-from-1 m x c)
+    ∙ line-of k (answerTo m x) (after m x .waiting .count) (marksIn (after m x .switch)) (finished-from-1 m x c) (context-from-1 m x c)
 
 -- after a start: the line of its `startedWith`
 pub start-line : (k n : ℕ) (u : Session) → lineIn k (sessionStarted n u) ≡ lineOf k (startAnswer n) 0 0

@@ -1,11 +1,11 @@
--- What is refused changes nothing: a step of a session, and a start. The marks of a session are those that count.
+-- What is refused changes nothing: a step of a session, and a start. The marks of a session are the switch's stored number.
 use mathlib.Core.Path.{_≡_, refl, sym, ap, _∙_}
 use mathlib.Core.Logic.{_⊎_, inl, inr, _≢_}
 use mathlib.Core.Bool.{true, false}
 use mathlib.Core.List.{List}
 use Prim.Native.Nat.{ℕ}
-use Rattle.switch.specs.DirtySet.{countedMarks}
-use Rattle.switch.proofs.Laws.{new-counted}
+use Rattle.switch.specs.Numbers.{marksIn}
+use Rattle.switch.proofs.Laws.{new-marks}
 use Rattle.waiting.specs.declared.Packet.{Packet}
 use Rattle.waiting.specs.Waiting.{waitingList}
 use Rattle.protocol.specs.declared.Answer.{Answer}
@@ -25,7 +25,7 @@ kept m x (FinishedContext o v) e h = absurd (h refl)
 kept m x (Refused r) e h = refused-unchanged m x r e
 
 -- a refused step, whatever the bytes, the session and what is lent: the switch, the store, the open operations and the packets are as they were, and so are the
--- count of packets and the marks, if they were those that count
+-- count of packets and the marks, if they were the switch's stored number
 module _ (u : Session) (switch store opens : List ℕ) (packets : List Packet) (bytes : List ℕ) where
   abbrev was : Machine
   was = machine switch store opens (waitingList packets (u .waiting))
@@ -33,20 +33,20 @@ module _ (u : Session) (switch store opens : List ℕ) (packets : List Packet) (
   abbrev then : Session
   then = sessionAfter (steppedBy was (askedBy bytes))
 
-  pub session-unchanged : then .refusal ≢ 0 → (after was (askedBy bytes) ≡ was) × (then .waiting ≡ u .waiting) × (u .marks ≡ countedMarks switch → then .marks ≡ u .marks)
+  pub session-unchanged : then .refusal ≢ 0 → (after was (askedBy bytes) ≡ was) × (then .waiting ≡ u .waiting) × (u .marks ≡ marksIn switch → then .marks ≡ u .marks)
   unfolding sessionAfter
   session-unchanged h =
       let same = kept was (askedBy bytes) (answerTo was (askedBy bytes)) refl h in
-      (same, ap (λ (m : Machine). m .waiting .count) same, λ e. ap (λ (m : Machine). countedMarks (m .switch)) same ∙ sym e)
+      (same, ap (λ (m : Machine). m .waiting .count) same, λ e. ap (λ (m : Machine). marksIn (m .switch)) same ∙ sym e)
 
--- after a step, and after an accepted start, they are those that count
-pub step-counted : (m : Machine) (x : Step) → sessionAfter (steppedBy m x) .marks ≡ countedMarks (after m x .switch)
+-- after a step, and after an accepted start, they are that number
+pub step-marks : (m : Machine) (x : Step) → sessionAfter (steppedBy m x) .marks ≡ marksIn (after m x .switch)
 unfolding sessionAfter
-step-counted m x = refl
+step-marks m x = refl
 
-pub start-counted : (n : ℕ) (u : Session) (switch : List ℕ) → startRefused n ≡ false → sessionStarted n u .marks ≡ countedMarks (startSwitch n switch)
+pub start-marks : (n : ℕ) (u : Session) (switch : List ℕ) → startRefused n ≡ false → sessionStarted n u .marks ≡ marksIn (startSwitch n switch)
 unfolding sessionStarted startSwitch
-start-counted n u switch e = rw (e, new-counted)
+start-marks n u switch e = rw (e, new-marks)
 
 -- a refused start: everything but the refusal, the operation, its values and its freshness is as it was
 abbrev StartKept : ℕ → Session → Type 0

@@ -5,20 +5,7 @@ use Rattle.switch.proofs.cells.complete.Tie as tie
 
 returns : tie.Need-returns
 unfolding completed
-returns c = simp (← c .before .before .before .before .before .before .before .before .before .before .committed .ensures, ← c .before .before .before .before .before .before .before .before .before .larger .ensures, ← c .before .before .before .before .before .before .before .first-slot .ensures .0, ← c .before .before .before .before .before .before .clear .ensures, ← c .before .before .before .before .second-slot .ensures .0, ← c .before .before .before .clear2 .ensures, ← c .before .third-slot .ensures .0, ← c .clear3 .ensures)
+returns c = simp (← c .before .before .commit .ensures, ← c .recount .ensures)
 
 pub complete-spec : {M : Type 1} → statement M
-complete-spec =
-    tie.close
-    (tie.spec
-    (λ c κs. search needs)
-    (λ c κs. search needs)
-    (λ c κs. search needs)
-    (λ c κs. search needs)
-    (λ c κs. search needs)
-    (λ c κs. search needs)
-    (λ c κs. search needs)
-    (λ c κs. search needs)
-    (λ c. search needs)
-    (λ c. search needs)
-    returns)
+complete-spec = tie.close (tie.spec (λ c κs. search needs) (λ c κs. search needs) returns)

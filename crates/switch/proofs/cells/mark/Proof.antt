@@ -15,7 +15,7 @@ returns-2 c = simp (← c .before .before .before .before .counter .ensures, ne-
 
 returns-3 : tie.Need-returns-3
 unfolding marked stampFor canMark marking nextStamp
-returns-3 c = simp (← c .before .before .before .before .before .before .before .before .before .counter .ensures, ne-eqb _ _ (c .before .before .before .before .before .before .before .before .if1 .left), ← c .before .before .before .before .before .before .slot-for .ensures, lt-ltb _ _ (c .before .before .before .before .before .if2 .left), ← c .before .before .before .number .ensures, ← c .before .before .make .ensures, ← c .put-mark .ensures) (refl, refl)
+returns-3 c = simp (← c .before .before .before .before .before .before .before .before .before .before .before .counter .ensures, ne-eqb _ _ (c .before .before .before .before .before .before .before .before .before .before .if1 .left), ← c .before .before .before .before .before .before .before .before .slot-for .ensures, lt-ltb _ _ (c .before .before .before .before .before .before .before .if2 .left), ← c .before .before .before .before .before .number .ensures, ← c .before .before .before .before .make .ensures, ← c .before .before .marks-for .ensures, ← c .put-mark .ensures) (refl, refl)
 
 pub mark-spec : {M : Type 1} → statement M
 mark-spec =
@@ -29,4 +29,6 @@ mark-spec =
     (λ c. search needs)
     (λ c κs. search needs)
     (λ c κs. search needs)
+    (λ c κs. search needs)
+    (λ c. search needs)
     returns-3)
