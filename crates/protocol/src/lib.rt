@@ -1,8 +1,6 @@
-// What the step machine is handed, what it answers, and what it decides between: types, the packets that hold messages, and the commonest decisions.
+// What the step machine is handed, what it answers, and what it decides between: types. crates/messages has the packets that hold messages, crates/decisions the commonest decisions.
 // specs/ says what each step does.
 pub mod answers;
-pub mod decisions;
-pub mod messages;
 
 use contexts::Context;
 use contexts::Objects;

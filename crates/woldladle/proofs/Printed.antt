@@ -25,7 +25,7 @@ use Rattle.records.specs.Records.{recordAt}
 use Rattle.line_lengths.specs.Lines.{lineOf}
 use Rattle.sessions.specs.declared.Session.{Session}
 use Rattle.sessions.specs.{refusalIn, operationIn, valuesIn, freshnessIn, sessionStarted, wholeStep, askedBy, sessionAfter}
-use Rattle.calls.specs.Calls.{contextFrom, answerFrom, lineFor}
+use Rattle.session_lines.specs.{contextFrom, answerFrom, lineFor}
 use Rattle.woldladle.proofs.Opens.{Counted, finished-from-1, context-from-1}
 
 -- the line of a session, as record k

@@ -1,6 +1,8 @@
 // The model for callers in C and Rust: a session and lent memory, records and lines. bindings/c/woldladle.h says where each thing lies.
 ghost use mathlib.Core.Path.{_≡_};
-ghost use Rattle.calls.specs.Calls.{lineFor, putBytes, recordRefusal, recordBuffer, contextRefusal, contextBuffer, recordSize, valueOf, stampIn};
+ghost use Rattle.session_lines.specs.{lineFor, putBytes};
+ghost use Rattle.numbered_records.specs.{recordRefusal, recordBuffer, contextRefusal, contextBuffer, recordSize};
+ghost use Rattle.replica_values.specs.{valueOf, stampIn};
 ghost use Rattle.lines.specs.Text.{putIn};
 ghost use Rattle.waiting.specs.Waiting.{waitingList};
 ghost use Rattle.protocol.specs.Steps.{machine, after, steppedBy, startSwitch, startStore, startOpens};
@@ -66,7 +68,7 @@ pub extern "C" fn woldladle_line(
     ensures { λ r. ⌜ (r ≡ putBytes (now (out .entry)) (lineFor number refusal operation count (now (values .entry)) freshness waiting marks))
         × (now (out .exit) ≡ putIn (now (out .entry)) 0 (lineFor number refusal operation count (now (values .entry)) freshness waiting marks)) ⌝ }
 {
-    calls::lines_out::line(
+    session_lines::line(
         number,
         refusal,
         operation,
@@ -85,7 +87,7 @@ pub extern "C" fn woldladle_line(
 pub extern "C" fn woldladle_write_record(tag: u8, first: u32, second: u32, out: &mut [u8]) -> u8
     ensures { λ r. ⌜ (r ≡ recordRefusal (now (out .entry)) tag first second) × (now (out .exit) ≡ recordBuffer (now (out .entry)) tag first second) ⌝ }
 {
-    calls::records_out::write_record(tag, first, second, &mut *out)
+    numbered_records::write_record(tag, first, second, &mut *out)
 }
 
 // Writes the record of a read of a whole context at the start of the buffer. 0, or refusal 1 where there are not 2 to 8 objects, or 15 where the buffer is too short; a
@@ -94,7 +96,7 @@ pub extern "C" fn woldladle_write_record(tag: u8, first: u32, second: u32, out: 
 pub extern "C" fn woldladle_write_context(objects: &[u16], out: &mut [u8]) -> u8
     ensures { λ r. ⌜ (r ≡ contextRefusal (now (out .entry)) (now (objects .entry))) × (now (out .exit) ≡ contextBuffer (now (out .entry)) (now (objects .entry))) ⌝ }
 {
-    calls::records_out::write_context(objects, &mut *out)
+    numbered_records::write_context(objects, &mut *out)
 }
 
 // How many bytes the record of a tag has, 0 for an unknown tag and for that of a read of a whole context.
@@ -102,7 +104,7 @@ pub extern "C" fn woldladle_write_context(objects: &[u16], out: &mut [u8]) -> u8
 pub extern "C" fn woldladle_record_length(tag: u8) -> u16
     ensures { λ r. ⌜ r ≡ recordSize tag ⌝ }
 {
-    calls::records_out::record_length(tag)
+    numbered_records::record_length(tag)
 }
 
 // The value of an object at a replica, removed or not: 0 where there is no such replica or object.
@@ -110,7 +112,7 @@ pub extern "C" fn woldladle_record_length(tag: u8) -> u16
 pub extern "C" fn woldladle_value(store: &[u32; store::CELLS], replica: u8, object: u32) -> u32
     ensures { λ r. ⌜ r ≡ valueOf (now (store .entry)) replica object ⌝ }
 {
-    calls::cells::value(store, replica, object)
+    replica_values::value(store, replica, object)
 }
 
 // Its stamp: the switch number times 65,536, and the counter.
@@ -118,5 +120,5 @@ pub extern "C" fn woldladle_value(store: &[u32; store::CELLS], replica: u8, obje
 pub extern "C" fn woldladle_stamp(store: &[u32; store::CELLS], replica: u8, object: u32) -> u32
     ensures { λ r. ⌜ r ≡ stampIn (now (store .entry)) replica object ⌝ }
 {
-    calls::cells::stamp(store, replica, object)
+    replica_values::stamp(store, replica, object)
 }

@@ -1,7 +1,7 @@
 use mathlib.Core.Path.{refl}
 use borrow.Author.Tests.{le-ltb, lt-ltb}
 use Rattle.protocol.specs.Steps.{decidedIn}
-use Rattle.dispatch.proofs.Leaves.{leaves}
+use Rattle.packet_delivery.proofs.Leaves.{leaves}
 use borrow.Author.Needs.{needs}
 use Rattle.dispatch.proofs.decide.Statement.{statement}
 use Rattle.dispatch.proofs.decide.Tie as tie

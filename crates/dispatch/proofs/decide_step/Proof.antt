@@ -1,6 +1,6 @@
 use mathlib.Core.Path.{refl}
 use Rattle.protocol.specs.Steps.{decided}
-use Rattle.dispatch.proofs.Leaves.{leaves}
+use Rattle.packet_delivery.proofs.Leaves.{leaves}
 use borrow.Author.Needs.{needs}
 use Rattle.dispatch.proofs.decide_step.Statement.{statement}
 use Rattle.dispatch.proofs.decide_step.Tie as tie

@@ -1,0 +1,14 @@
+use Rattle.protocol.specs.Steps.{asking}
+use Rattle.begins.proofs.ask.Statement.{statement}
+use Rattle.begins.proofs.ask.Tie as tie
+
+returns : tie.Need-returns
+unfolding asking
+returns c = simp (c .if1 .taken)
+
+returns-2 : tie.Need-returns-2
+unfolding asking
+returns-2 c = simp (c .if1 .left)
+
+pub ask-spec : {M : Type 1} → statement M
+ask-spec = tie.close (tie.spec returns returns-2)

@@ -1,2 +1,0 @@
--- What the exported functions take and give.
-pub mod Calls

@@ -1,0 +1,32 @@
+use mathlib.Core.Path.{refl}
+use borrow.Author.Tests.{not-false, not-true}
+use Rattle.protocol.specs.Contexts.{normalContext}
+use borrow.Author.Needs.{needs}
+use Rattle.context_answers.proofs.normal_read.Statement.{statement}
+use Rattle.context_answers.proofs.normal_read.Tie as tie
+
+returns : tie.Need-returns
+unfolding normalContext
+returns c = simp (← c .drop-row .ensures .0, ← c .drop-row .ensures .1, not-true (c .before .before .before .is-live .result) (c .before .before .if1 .taken), ← c .before .before .before .is-live .ensures) (refl, refl)
+
+returns-2 : tie.Need-returns-2
+unfolding normalContext
+returns-2 c = simp (← c .drop-row2 .ensures .0, ← c .drop-row2 .ensures .1, not-true (c .before .before .before .is-context .result) (c .before .before .if2 .taken), ← c .before .before .before .is-context .ensures, ← c .before .before .before .before .load .ensures, not-false (c .before .before .before .before .before .before .before .is-live .result) (c .before .before .before .before .before .before .if1 .left), ← c .before .before .before .before .before .before .before .is-live .ensures) (refl, refl)
+
+returns-3 : tie.Need-returns-3
+unfolding normalContext
+returns-3 c = simp (← c .answer .ensures .0, ← c .answer .ensures .1, not-false (c .before .before .before .is-context .result) (c .before .before .if2 .left), ← c .before .before .before .is-context .ensures, ← c .before .before .before .before .load .ensures, not-false (c .before .before .before .before .before .before .before .is-live .result) (c .before .before .before .before .before .before .if1 .left), ← c .before .before .before .before .before .before .before .is-live .ensures) (refl, refl)
+
+pub normal-read-spec : {M : Type 1} → statement M
+normal-read-spec =
+    tie.close
+    (tie.spec
+    (λ c κs. search needs)
+    (λ c κs. search needs)
+    returns
+    (λ c κs. search needs)
+    (λ c κs. search needs)
+    (λ c κs. search needs)
+    returns-2
+    (λ c κs. search needs)
+    returns-3)

@@ -1,0 +1,149 @@
+// Packets and the messages that they hold.
+ghost use mathlib.Core.Path.{_≡_};
+ghost use Rattle.protocol.specs.Messages.{packetOf, contextMessage, messageOf, isUnstamped, isOfContext, inRow, writeOf};
+use limits::Freshness;
+use limits::Number;
+use limits::Object;
+use limits::Operation;
+use limits::Replica;
+use limits::Stamp;
+use limits::Value;
+use protocol::Message;
+use store::Write;
+use waiting::Packet;
+
+fn packet(
+    kind: u8,
+    replica: Replica,
+    number: Number,
+    operation: Operation,
+    object: Object,
+    value: Value,
+    stamp: Stamp,
+    freshness: Freshness,
+) -> Packet
+    ensures { λ r. ⌜ r ≡ record { kind = kind; replica = replica; number = number; operation = operation; object = object; value = value; stamp = stamp; freshness = freshness } ⌝ }
+{
+    Packet {
+        kind,
+        replica,
+        number,
+        operation,
+        object,
+        value,
+        stamp,
+        freshness,
+    }
+}
+
+// The packet that holds a message.
+pub fn packet_of(m: Message) -> Packet
+    ensures { λ r. ⌜ r ≡ packetOf m ⌝ }
+{
+    match m {
+        Message::UnstampedWrite(o, x, v) => packet(1, 0, 0, o, x, v, 0, 0),
+        Message::SwitchRead(o, x) => packet(2, 0, 0, o, x, 0, 0, 0),
+        Message::StampedWrite(r, w) => {
+            packet(3, r, 0, w.operation, w.object, w.value, w.stamp, 0)
+        }
+        Message::DirectRead(r, number, t, o, x) => packet(4, r, number, o, x, 0, t, 0),
+        Message::NormalRead(r, o, x, t) => packet(5, r, 0, o, x, 0, t, 0),
+        Message::Completion(x, t) => packet(6, 0, 0, 0, x, 0, t, 0),
+        Message::Reply(o, v, t, f) => packet(7, 0, 0, o, 0, v, t, f),
+        Message::ContextRead(o, r) => packet(8, 0, 0, o, 0, r, 0, 0),
+        Message::DirectContext(q, number, t, o, r) => packet(9, q, number, o, 0, r, t, 0),
+        Message::NormalContext(q, o, r) => packet(10, q, 0, o, 0, r, 0, 0),
+        Message::ContextReply(o, r) => packet(11, 0, 0, o, 0, r, 0, 0),
+        Message::Unknown => Packet::blank(),
+    }
+}
+
+fn write_of(p: Packet) -> Write
+    ensures { λ r. ⌜ r ≡ writeOf p ⌝ }
+{
+    Write {
+        operation: p.operation,
+        object: p.object,
+        value: p.value,
+        stamp: p.stamp,
+    }
+}
+
+// The message of a read of a whole context; what a packet of no kind holds.
+fn context_message(p: Packet) -> Message
+    ensures { λ r. ⌜ r ≡ contextMessage p ⌝ }
+{
+    if p.kind == 8 {
+        return Message::ContextRead(p.operation, p.value);
+    }
+    if p.kind == 9 {
+        return Message::DirectContext(p.replica, p.number, p.stamp, p.operation, p.value);
+    }
+    if p.kind == 10 {
+        return Message::NormalContext(p.replica, p.operation, p.value);
+    }
+    if p.kind == 11 {
+        return Message::ContextReply(p.operation, p.value);
+    }
+    Message::Unknown
+}
+
+// The message that a packet holds.
+pub fn message_of(p: Packet) -> Message
+    ensures { λ r. ⌜ r ≡ messageOf p ⌝ }
+{
+    if p.kind == 1 {
+        return Message::UnstampedWrite(p.operation, p.object, p.value);
+    }
+    if p.kind == 2 {
+        return Message::SwitchRead(p.operation, p.object);
+    }
+    if p.kind == 3 {
+        return Message::StampedWrite(p.replica, write_of(p));
+    }
+    if p.kind == 4 {
+        return Message::DirectRead(p.replica, p.number, p.stamp, p.operation, p.object);
+    }
+    if p.kind == 5 {
+        return Message::NormalRead(p.replica, p.operation, p.object, p.stamp);
+    }
+    if p.kind == 6 {
+        return Message::Completion(p.object, p.stamp);
+    }
+    if p.kind == 7 {
+        return Message::Reply(p.operation, p.value, p.stamp, p.freshness);
+    }
+    context_message(p)
+}
+
+pub fn is_unstamped(p: Packet) -> bool
+    ensures { λ r. ⌜ r ≡ isUnstamped p ⌝ }
+{
+    p.kind == 1
+}
+
+// Whether the packet is one of a read of a whole context.
+pub fn is_of_context(p: Packet) -> bool
+    ensures { λ r. ⌜ r ≡ isOfContext p ⌝ }
+{
+    if p.kind < 8 {
+        return false;
+    }
+    p.kind <= 11
+}
+
+// The packet with another row.
+pub fn in_row(p: Packet, row: u32) -> Packet
+    ensures { λ r. ⌜ r ≡ inRow p row ⌝ }
+{
+    Packet {
+        kind: p.kind,
+        replica: p.replica,
+        number: p.number,
+        operation: p.operation,
+        object: p.object,
+        value: row,
+        stamp: p.stamp,
+        freshness: p.freshness,
+    }
+}

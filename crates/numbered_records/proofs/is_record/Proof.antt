@@ -1,0 +1,28 @@
+use borrow.Author.Tests.{le-leb, lt-leb}
+use Rattle.numbered_records.specs.{isRecord}
+use borrow.Author.Needs.{needs}
+use Rattle.numbered_records.proofs.is_record.Statement.{statement}
+use Rattle.numbered_records.proofs.is_record.Tie as tie
+
+returns : tie.Need-returns
+unfolding isRecord
+returns c = simp (← c .before .kind-of-tag .ensures, le-leb _ _ (c .if1 .taken))
+
+returns-2 : tie.Need-returns-2
+unfolding isRecord
+returns-2 c = simp (← c .before .before .before .before .kind-of-tag .ensures, lt-leb _ _ (c .before .before .before .if1 .left), ← c .before .before .largest-first .ensures, le-leb _ _ (c .before .if2 .taken), ← c .largest-second .ensures)
+
+returns-3 : tie.Need-returns-3
+unfolding isRecord
+returns-3 c = simp (← c .before .before .before .kind-of-tag .ensures, lt-leb _ _ (c .before .before .if1 .left), ← c .before .largest-first .ensures, lt-leb _ _ (c .if2 .left))
+
+pub is-record-spec : {M : Type 1} → statement M
+is-record-spec =
+    tie.close
+    (tie.spec
+    (λ c κs. search needs)
+    returns
+    (λ c κs. search needs)
+    (λ c κs. search needs)
+    returns-2
+    returns-3)

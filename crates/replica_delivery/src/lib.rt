@@ -1,0 +1,133 @@
+// 'What delivery does', of packets to a replica, and of replies.
+ghost use mathlib.Core.Path.{_≡_};
+ghost use Rattle.store.specs.{stampAt};
+ghost use Rattle.protocol.specs.Delivery.{answering, stampedWrite, directRead, freshness, normalRead, reply};
+use limits::Freshness;
+use limits::Number;
+use limits::Object;
+use limits::Operation;
+use limits::Replica;
+use limits::Stamp;
+use limits::Value;
+use protocol::Answer;
+use protocol::Decision;
+use protocol::Message;
+use protocol::Refusal;
+use protocol::answers::NEW;
+use protocol::answers::NONE;
+use protocol::answers::OLD;
+use store::Write;
+use waiting::Edit;
+
+// The reply and the completion that the tail sends, in the place of the delivered write.
+fn answers(at: usize, w: Write) -> Edit
+    ensures { λ r. ⌜ r ≡ answering at w ⌝ }
+{
+    decisions::take_out_add_two(
+        at,
+        messages::packet_of(Message::Reply(w.operation, w.value, 0, NONE)),
+        messages::packet_of(Message::Completion(w.object, w.stamp)),
+    )
+}
+
+pub fn stamped_write(
+    store: &mut [u32; store::CELLS],
+    held: usize,
+    at: usize,
+    r: Replica,
+    w: Write,
+) -> Decision
+    ensures { λ d. ⌜ (d ≡ stampedWrite (now (store .entry)) held at r w .decision)
+        × (now (store .exit) ≡ stampedWrite (now (store .entry)) held at r w .store) ⌝ }
+{
+    if !replicas::accepts(store, r, w.stamp) {
+        return decisions::drop_packet(at);
+    }
+    if r != chain::tail(store) {
+        replicas::take(&mut *store, r, w);
+        return decisions::drop_packet(at);
+    }
+    if decisions::is_overfull(held, 1, 2) {
+        return decisions::refuse(Refusal::WaitingFull);
+    }
+    replicas::take(&mut *store, r, w);
+    decisions::done(answers(at, w))
+}
+
+pub fn direct_read(
+    store: &[u32; store::CELLS],
+    at: usize,
+    r: Replica,
+    number: Number,
+    t: Stamp,
+    o: Operation,
+    x: Object,
+) -> Decision
+    ensures { λ d. ⌜ d ≡ directRead (now (store .entry)) at r number t o x ⌝ }
+{
+    if !chain::is_live(store, r) {
+        return decisions::drop_packet(at);
+    }
+    if replicas::answers(store, r, x, number, t) {
+        let v = store::read_value(store, r, x);
+        return decisions::pass_on(at, Message::Reply(o, v, 0, NONE));
+    }
+    decisions::pass_on(at, Message::NormalRead(chain::tail(store), o, x, 0))
+}
+
+// What a read that carries the stamp of a pending write says of it, from the stamp of the value that it is answered with.
+fn compare(stamp: Stamp, carried: Stamp) -> Freshness
+    ensures { λ r. ⌜ r ≡ freshness stamp carried ⌝ }
+{
+    if carried == 0 {
+        return NONE;
+    }
+    if stamp::above(carried, stamp) {
+        return OLD;
+    }
+    NEW
+}
+
+// The stamp of the value that replica r answers with: that of the object in its own table.
+fn value_stamp(store: &[u32; store::CELLS], r: Replica, x: Object) -> Stamp
+    ensures { λ t. ⌜ t ≡ stampAt (now (store .entry)) r x ⌝ }
+{
+    store::read_stamp(store, r, x)
+}
+
+pub fn normal_read(
+    store: &[u32; store::CELLS],
+    at: usize,
+    r: Replica,
+    o: Operation,
+    x: Object,
+    carried: Stamp,
+) -> Decision
+    ensures { λ d. ⌜ d ≡ normalRead (now (store .entry)) at r o x carried ⌝ }
+{
+    if !chain::is_live(store, r) {
+        return decisions::drop_packet(at);
+    }
+    let v = store::read_value(store, r, x);
+    let f = compare(value_stamp(store, r, x), carried);
+    decisions::pass_on(at, Message::Reply(o, v, carried, f))
+}
+
+pub fn finish(
+    opens: &mut [u32; operations::CELLS],
+    at: usize,
+    o: Operation,
+    v: Value,
+    f: Freshness,
+) -> Decision
+    ensures { λ d. ⌜ (d ≡ reply (now (opens .entry)) at o v f .decision)
+        × (now (opens .exit) ≡ reply (now (opens .entry)) at o v f .opens) ⌝ }
+{
+    if !operations::close(&mut *opens, o) {
+        return decisions::drop_packet(at);
+    }
+    Decision {
+        answer: Answer::Finished(o, v, f),
+        edit: decisions::take_out(at),
+    }
+}
