@@ -1,4 +1,5 @@
-/* A load generator's inner loop: writes object after object, reads each while its write is pending, and prints the model's lines. In the end it reads two objects at once. */
+/* A load generator's inner loop: writes object after object, reads each while its write is pending, and prints the model's lines. Then it reads two objects at once. In the
+ * end a server of a second store is swapped: a replica joins, gets copies and writes, and takes the place of another. */
 #include "woldladle.h"
 #include <stdio.h>
 
@@ -37,9 +38,71 @@ static void read_context(const uint16_t *objects, size_t count) {
         printf("read %u found %u in object %u\n", (unsigned)s->operation, (unsigned)s->values[i], (unsigned)objects[i]);
 }
 
-int main(void) {
-    woldladle_model_start(&model, 1);
+static void print_chain(void) {
+    uint8_t told[WOLDLADLE_CHAIN];
+    uint8_t live = woldladle_chain(model.store, told);
+    printf("live:");
+    for (uint8_t i = 0; i < live; i++)
+        printf(" %u", told[i]);
+    if (told[WOLDLADLE_REPLICAS] != 0)
+        printf("; replica %u joins, copies: %u", told[WOLDLADLE_REPLICAS], told[WOLDLADLE_REPLICAS + 1]);
+    printf("\n");
+}
+
+static void print_held(uint8_t replica, uint32_t object) {
+    uint32_t stamp = woldladle_stamp(model.store, replica, object);
+    printf("replica %u holds %u of object %u, with stamp (%u,%u)\n", replica, (unsigned)woldladle_value(model.store, replica, object), (unsigned)object,
+           (unsigned)(stamp / 65536), (unsigned)(stamp % 65536));
+}
+
+/* A write through replicas 1 and 2, from its begin to its completion. */
+static void write_through(uint32_t object, uint32_t value) {
+    step(2, object, value);
+    step(3, 0, 0); /* the switch marks it */
+    step(3, 0, 0); /* the head applies it */
+    step(6, 2, 0); /* .. and the tail does */
+    while (model.session.waiting > 0)
+        step(3, 0, 0); /* the reply and the completion */
+}
+
+static void start(uint8_t n) {
+    number = 0;
+    woldladle_model_start(&model, n);
     print_line();
+}
+
+/* Replica 3 joins and replica 1 goes; 0 if every refusal is the one expected. */
+static int swap_a_server(void) {
+    int wrong = 0;
+    start(2);
+    write_through(5, 900);
+    write_through(100, 1000);
+    wrong |= step(13, 0, 0) != 19; /* a copy, and no join is under way */
+    wrong |= step(12, 0, 0) != 0;  /* a join */
+    wrong |= step(12, 0, 0) != 18; /* .. and another */
+    print_chain();
+    print_held(3, 5);
+    step(13, 0, 0); /* the first copy: objects 0 to 63 */
+    print_chain();
+    print_held(3, 5);
+    write_through(5, 901); /* it reaches the newcomer */
+    print_held(3, 5);
+    print_held(3, 100);
+    for (int copies = 1; copies < 16; copies++)
+        step(13, 0, 0);
+    print_chain();
+    print_held(3, 100);
+    print_held(1, 5);
+    step(9, 1, 0); /* the old server goes */
+    print_chain();
+    print_held(1, 5);
+    start(8);
+    wrong |= step(12, 0, 0) != 17; /* eight are live */
+    return wrong;
+}
+
+int main(void) {
+    start(1);
     for (uint32_t object = 5; object < 8; object++) {
         step(2, object, object * 100); /* begin a write */
         step(1, object, 0);            /* begin a read of the same object */
@@ -52,5 +115,7 @@ int main(void) {
         printf("replica 1 holds %u of object %u\n", (unsigned)woldladle_value(model.store, 1, object), (unsigned)object);
     }
     read_context((const uint16_t[]){7, 5}, 2);
-    return step(1, 1024, 0) == 3 ? 0 : 1; /* refused: no such object */
+    if (step(1, 1024, 0) != 3) /* refused: no such object */
+        return 1;
+    return swap_a_server();
 }

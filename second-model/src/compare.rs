@@ -1,7 +1,11 @@
 //! Compares another run program with this model on random files, and looks for
 //! an order on small runs.
 
-use crate::generate::{generate, length, Random, KINDS, SMALL};
+mod shorten;
+
+pub use shorten::shorten;
+
+use crate::generate::{generate, length, small_length, Random, KINDS, SMALL};
 use crate::model::{Age, Finished, Refusal, Way};
 use crate::order::{find_order, history};
 use crate::records::pieces;
@@ -33,7 +37,8 @@ pub struct Tally {
     pub old: usize,
     pub new: usize,
     pub contexts: Contexts,
-    pub refusals: [usize; 17],
+    pub joins: Joins,
+    pub refusals: [usize; 20],
     pub orders: usize,
     pub ordered_operations: usize,
 }
@@ -71,12 +76,48 @@ impl Contexts {
     }
 }
 
+/// How often a join began, and how often one reached its sixteenth copy.
+#[derive(Clone, Copy, Debug, Default)]
+pub struct Joins {
+    pub begun: usize,
+    pub whole: usize,
+    copies: usize,
+}
+
+impl Joins {
+    /// Counts an accepted record with this tag.
+    fn count(&mut self, tag: u8) {
+        match tag {
+            12 => {
+                self.begun += 1;
+                self.copies = 0;
+            }
+            13 => {
+                self.copies += 1;
+                self.whole += usize::from(self.copies == 16);
+            }
+            _ => {}
+        }
+    }
+
+    /// Each with its name and number.
+    pub fn rows(&self) -> [(&'static str, usize); 2] {
+        [("join, begun", self.begun), ("join, whole", self.whole)]
+    }
+}
+
 impl Tally {
     /// Counts a compared file.
     pub fn count(&mut self, input: &[u8]) {
         self.files += 1;
         self.bytes += input.len();
-        walk(input, |_, outcome| self.count_line(outcome));
+        let pieces = pieces(input);
+        walk(input, |number, outcome| {
+            self.count_line(outcome);
+            if let (Ok(_), Some(piece)) = (outcome, pieces.get(number.wrapping_sub(1))) {
+                self.joins.count(piece[0]);
+            }
+        });
     }
 
     /// Counts one line.
@@ -110,6 +151,8 @@ impl Tally {
         self.contexts.direct += other.contexts.direct;
         self.contexts.tail += other.contexts.tail;
         self.contexts.rejected += other.contexts.rejected;
+        self.joins.begun += other.joins.begun;
+        self.joins.whole += other.joins.whole;
         self.orders += other.orders;
         self.ordered_operations += other.ordered_operations;
         for (ours, theirs) in self.refusals.iter_mut().zip(other.refusals) {
@@ -127,7 +170,7 @@ impl Tally {
         row("finished", self.finished);
         row("old", self.old);
         row("new", self.new);
-        for (name, times) in self.contexts.rows() {
+        for (name, times) in self.contexts.rows().into_iter().chain(self.joins.rows()) {
             row(name, times);
         }
         for (number, &times) in self.refusals.iter().enumerate().skip(1) {
@@ -160,7 +203,8 @@ pub fn with_commas(number: usize) -> String {
 }
 
 /// The file with this index of a comparison: its kind and bytes. Those from
-/// `files` on are the small runs, every other one with reads of contexts.
+/// `files` on are the small runs, a third of them with reads of contexts and a
+/// third with joins.
 pub fn file(task: &Task, index: usize) -> (&'static str, Vec<u8>) {
     let mut random = Random::new(task.seed.wrapping_add((index as u64) << 32));
     random.draw();
@@ -170,7 +214,7 @@ pub fn file(task: &Task, index: usize) -> (&'static str, Vec<u8>) {
     };
     let length = match index < task.files {
         true => length(kind, &mut random),
-        false => random.within(200, 700),
+        false => small_length(kind, &mut random),
     };
     let bytes = generate(kind, random.draw(), length).expect("a kind of the list");
     (kind, bytes)
@@ -190,45 +234,6 @@ fn first_difference(ours: &[u8], theirs: &[u8]) -> usize {
     let (a, b) = (ours.split(|&c| c == b'\n'), theirs.split(|&c| c == b'\n'));
     let same = a.zip(b).take_while(|(x, y)| x == y);
     same.count() + 1
-}
-
-/// The most runs that shortening makes, some twenty seconds.
-const MOST_TRIES: usize = 6000;
-
-/// Takes records out of a file while `differs` still holds: first all after
-/// the first difference, then pieces from half of the file down to one record,
-/// as long as there are tries left.
-pub fn shorten(
-    input: &[u8],
-    first: usize,
-    mut differs: impl FnMut(&[u8]) -> io::Result<bool>,
-) -> io::Result<Vec<u8>> {
-    let mut kept = pieces(input);
-    if first < kept.len() && differs(&kept[..first].concat())? {
-        kept.truncate(first);
-    }
-    let mut size = kept.len().div_ceil(2).max(1);
-    let mut tries = 0;
-    loop {
-        let before = kept.len();
-        let mut place = 0;
-        while place < kept.len() && tries < MOST_TRIES {
-            tries += 1;
-            let end = kept.len().min(place + size);
-            let without = [&kept[..place], &kept[end..]].concat();
-            if differs(&without.concat())? {
-                kept = without;
-            } else {
-                place = end;
-            }
-        }
-        match (size, kept.len() < before) {
-            (1, false) => return Ok(kept.concat()),
-            _ if tries == MOST_TRIES => return Ok(kept.concat()),
-            (1, true) => {}
-            _ => size = size.div_ceil(2),
-        }
-    }
 }
 
 /// Shortens a file on which the outputs differ and keeps all that is needed to
@@ -289,7 +294,7 @@ pub fn compare_one(
 /// The refusals that a file can bring about: all but 4 and 15.
 pub fn reachable() -> impl Iterator<Item = usize> {
     let far = [Refusal::NumbersUsedUp, Refusal::BufferTooShort];
-    (1..=16).filter(move |number| far.iter().all(|r| usize::from(r.number()) != *number))
+    (1..=19).filter(move |number| far.iter().all(|r| usize::from(r.number()) != *number))
 }
 
 #[cfg(test)]
@@ -311,28 +316,35 @@ mod tests {
         assert_eq!(first_difference(b"1 ok\n", b""), 1);
     }
 
-    /// A wrong program in which refusal 13 is printed as 12: what is left is a
-    /// start and one give-up.
-    #[test]
-    fn shortening_leaves_what_is_needed() {
-        let input = words::file(
-            "start 3; write 5 9; 2 * deliver 0; advance 2; advance 3; give up 7; \
-             2 * deliver 0; give up 1; read 5; 3 * deliver 0",
-        );
-        let wrong = |bytes: &[u8]| {
-            let text = String::from_utf8(output(bytes)).unwrap();
-            text.replace("no 13", "no 12").into_bytes()
-        };
-        let first = first_difference(&output(&input), &wrong(&input));
-        assert_eq!(first, 7);
-        let short = shorten(&input, first, |b| Ok(output(b) != wrong(b))).unwrap();
-        assert_eq!(short, words::file("start 3; give up 7"));
-    }
-
     #[test]
     fn four_and_fifteen_are_beyond_a_file() {
         let all: Vec<usize> = reachable().collect();
-        assert_eq!(all, [1, 2, 3, 5, 6, 7, 8, 9, 10, 11, 12, 13, 14, 16]);
+        let expected = [1, 2, 3, 5, 6, 7, 8, 9, 10, 11, 12, 13, 14, 16, 17, 18, 19];
+        assert_eq!(all, expected);
+    }
+
+    /// A whole join, a refused one, one that the tail's removal ends, and one
+    /// under way at the end.
+    #[test]
+    fn joins_are_counted() {
+        let input = words::file(
+            "start 2; copy; join; 3 * copy; join; 13 * copy; copy; join; copy; remove 3; join; \
+             15 * copy",
+        );
+        let mut tally = Tally::default();
+        tally.count(&input);
+        let mut twice = tally.clone();
+        twice.add(&tally);
+        let times = |tally: &Tally| tally.joins.rows().map(|(_, times)| times);
+        assert_eq!((times(&tally), times(&twice)), ([3, 1], [6, 2]));
+        assert_eq!((tally.refusals[18], tally.refusals[19]), (1, 2));
+        let report = tally.report();
+        for line in [
+            "join, begun                   3",
+            "join, whole                   1",
+        ] {
+            assert!(report.contains(line), "{report}");
+        }
     }
 
     /// Reads of two objects: one by the tail, one directly, one rejected because

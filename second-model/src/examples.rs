@@ -10,6 +10,7 @@ mod context_refusals;
 mod contexts;
 mod deliveries;
 mod ends;
+mod joins;
 mod marks;
 mod refusals;
 mod removals;
@@ -22,7 +23,7 @@ use std::io;
 use std::path::Path;
 
 /// The tables, in the order in which the examples are listed.
-const TABLES: [&str; 8] = [
+const TABLES: [&str; 9] = [
     ends::TABLE,
     refusals::TABLE,
     marks::TABLE,
@@ -31,6 +32,7 @@ const TABLES: [&str; 8] = [
     rounds::TABLE,
     context_refusals::TABLE,
     contexts::TABLE,
+    joins::TABLE,
 ];
 
 /// A record file with a name, and the last line that it must print.
@@ -147,7 +149,8 @@ mod tests {
         }
         let mut seen: Vec<u8> = seen.into_iter().collect();
         seen.sort_unstable();
-        assert_eq!(seen, [1, 2, 3, 5, 6, 7, 8, 9, 10, 11, 12, 13, 14, 16]);
+        let reachable = [1, 2, 3, 5, 6, 7, 8, 9, 10, 11, 12, 13, 14, 16, 17, 18, 19];
+        assert_eq!(seen, reachable);
     }
 
     #[test]

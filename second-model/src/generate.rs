@@ -51,7 +51,7 @@ impl Random {
 
 /// The kinds of files, each with what it is about. A kind's place goes into its
 /// files' bytes, so a new one stands behind the others.
-pub const KINDS: [(&str, &str); 20] = [
+pub const KINDS: [(&str, &str); 23] = [
     ("accepted", "mostly accepted steps of every tag"),
     ("dense", "reads and writes of few objects"),
     ("full-waiting", "nearly full waiting list"),
@@ -87,17 +87,27 @@ pub const KINDS: [(&str, &str); 20] = [
         "small-contexts",
         "few operations, reads of two or three objects",
     ),
+    (
+        "joins",
+        "replicas put back under traffic, joins ended by removals",
+    ),
+    (
+        "join-faults",
+        "joins and copies that are refused or of a wrong length",
+    ),
+    ("small-joins", "few operations, whole joins among them"),
 ];
 
 /// The kinds of small runs, for which an order is looked for.
-pub const SMALL: [&str; 2] = ["small", "small-contexts"];
+pub const SMALL: [&str; 3] = ["small", "small-contexts", "small-joins"];
 
 /// So many of the kinds, the first ones, have a mood, and are damaged for kind
 /// `damaged`.
 const MOODS: usize = 14;
 
 /// A file of a kind, from a seed, of at most this length (exactly this length
-/// except for `damaged` and `context-faults`); none if there is no such kind.
+/// except for `damaged`, `context-faults` and `join-faults`); none if there is no
+/// such kind.
 pub fn generate(kind: &str, seed: u64, length: usize) -> Option<Vec<u8>> {
     let place = KINDS.iter().position(|(name, _)| *name == kind)?;
     let mut random = Random::new(seed ^ (place as u64) << 56);
@@ -107,6 +117,7 @@ pub fn generate(kind: &str, seed: u64, length: usize) -> Option<Vec<u8>> {
         "damaged" => damaged(&mut random, length),
         "random-steps" => random_steps(&mut random, length),
         "context-faults" => context_faults(&mut random, length),
+        "join-faults" => join_faults(&mut random, length),
         _ => {
             let mood = mood(kind, &mut random, length);
             Author::new(mood, random).write(length)
@@ -121,13 +132,23 @@ pub fn length(kind: &str, random: &mut Random) -> usize {
     match (kind, random.below(100)) {
         (_, 0..2) => INPUT_LONGEST + 1,
         ("small" | "small-contexts", _) => short,
+        ("small-joins", _) => 2 * short,
         (_, 2..10) => INPUT_LONGEST,
         ("noise", _) => random.below(300),
         ("removals" | "pending-writes", 10..80) => random.within(100, 3000),
-        ("context-faults", 10..80) => random.within(100, 6000),
+        ("context-faults" | "join-faults", 10..80) => random.within(100, 6000),
         (_, 10..50) => random.within(30_000, INPUT_LONGEST),
         (_, 50..75) => random.within(600, 30_000),
         _ => short,
+    }
+}
+
+/// A length for a small run for which an order is looked for. The records of
+/// copies come on top, so that there is as much traffic with joins as without.
+pub fn small_length(kind: &str, random: &mut Random) -> usize {
+    match kind {
+        "small-joins" => random.within(300, 1000),
+        _ => random.within(200, 700),
     }
 }
 
@@ -279,6 +300,60 @@ fn wrong_context(random: &mut Random) -> Vec<u8> {
     bytes
 }
 
+/// A run with joins, many steps of them refused. Into most runs a record of tag
+/// 12 or 13 with a wrong length is put somewhere; some are cut in their midst or
+/// have one bit changed.
+fn join_faults(random: &mut Random, length: usize) -> Vec<u8> {
+    let mood = mood("join-faults", random, length);
+    let seed = random.draw();
+    let mut bytes = Author::new(mood, Random::new(seed)).write(length);
+    if bytes.is_empty() {
+        return bytes;
+    }
+    let tag = random.one_of(&[12, 13]);
+    let (mut places, mut joins) = (Vec::new(), Vec::new());
+    let mut place = 0;
+    for piece in pieces(&bytes) {
+        places.push(place);
+        if piece[0] == tag {
+            joins.push(place);
+        }
+        place += piece.len();
+    }
+    let anywhere = random.one_of(&places);
+    let join = match joins.as_slice() {
+        [] => anywhere,
+        joins => random.one_of(joins),
+    };
+    match random.below(20) {
+        0..12 => insert(&mut bytes, anywhere, &wrong_join(random)),
+        12..14 => bytes.truncate(join + random.within(1, 2)),
+        14..16 => {
+            if let Some(byte) = bytes.get_mut(join + random.below(3)) {
+                *byte ^= 1 << random.below(8);
+            }
+        }
+        _ => {}
+    }
+    bytes.truncate(length);
+    bytes
+}
+
+/// A record of tag 12 or 13 with a wrong length, or of the next tag, at times
+/// without all its content.
+fn wrong_join(random: &mut Random) -> Vec<u8> {
+    let tag = random.one_of(&[12, 12, 12, 13, 13, 13, 14]);
+    let length = random.one_of(&[1, 1, 2, 2, 3, 4, 6, 13, 255, 256, 512, 65_535]);
+    let [high, low] = (length as u16).to_be_bytes();
+    let content = match random.below(4) {
+        0 => random.below(length + 1),
+        _ => length,
+    };
+    let mut bytes = vec![tag, high, low];
+    bytes.extend((0..content).map(|_| random.below(14) as u8));
+    bytes
+}
+
 /// Puts bytes into a file at a place.
 fn insert(bytes: &mut Vec<u8>, place: usize, more: &[u8]) {
     bytes.splice(place..place, more.iter().copied());
@@ -350,10 +425,30 @@ mod tests {
         }
     }
 
+    /// As above; but where three or seven bytes are left a join or a copy may
+    /// fit.
+    #[test]
+    fn files_with_joins_end_whole_too() {
+        for kind in ["joins", "small-joins"] {
+            for length in (0..80).chain([65_535, 65_536, 65_537]) {
+                let file = generate(kind, length as u64, length).unwrap();
+                assert_eq!(file.len(), length, "{kind}");
+                let sound = |p: &&[u8]| crate::records::read(p).is_some();
+                let whole = pieces(&file).iter().all(sound);
+                let small = matches!(length, 1..=3 | 5..=7);
+                assert!(
+                    matches!(length, 7 | 11) || whole != small,
+                    "{kind} {length}"
+                );
+            }
+        }
+    }
+
     #[test]
     fn runs_that_look_at_the_state_are_mostly_accepted() {
         let kinds = ["accepted", "dense", "colliding", "replacements", "small"];
-        for kind in kinds.into_iter().chain(["pending-writes", "contexts"]) {
+        let later = ["pending-writes", "contexts", "joins"];
+        for kind in kinds.into_iter().chain(later) {
             let file = generate(kind, 3, 30_000).unwrap();
             let (mut all, mut accepted) = (0, 0);
             walk(&file, |_, outcome| {
@@ -369,7 +464,7 @@ mod tests {
 
     #[test]
     fn small_files_begin_few_operations() {
-        for (kind, most) in SMALL.into_iter().zip([8, 12]) {
+        for (kind, most) in SMALL.into_iter().zip([8, 12, 12]) {
             for seed in 0..50 {
                 let file = generate(kind, seed, 600).unwrap();
                 let begins = pieces(&file)
@@ -381,18 +476,24 @@ mod tests {
         }
     }
 
-    /// Checksums of files of the kinds that stand before the contexts: their
-    /// bytes stay as they are.
-    #[test]
-    fn earlier_kinds_keep_their_bytes() {
+    /// A checksum of two files of each of some kinds.
+    fn checksum(kinds: &[(&str, &str)]) -> u64 {
         let mut sum: u64 = 0;
-        for (kind, _) in &KINDS[..17] {
+        for (kind, _) in kinds {
             for (seed, length) in [(1, 900), (2, 5000)] {
                 for byte in generate(kind, seed, length).unwrap() {
                     sum = sum.wrapping_mul(0x100_0000_01b3) ^ u64::from(byte);
                 }
             }
         }
-        assert_eq!(sum, 15_296_580_026_681_900_764);
+        sum
+    }
+
+    /// The kinds that stand before the contexts, and those before the joins:
+    /// their bytes stay as they are.
+    #[test]
+    fn earlier_kinds_keep_their_bytes() {
+        assert_eq!(checksum(&KINDS[..17]), 15_296_580_026_681_900_764);
+        assert_eq!(checksum(&KINDS[17..20]), 14_597_963_099_636_317_467);
     }
 }

@@ -1,6 +1,6 @@
 //! The machine: a switch, a chain, the waiting packets and the open
 //! operations, and what each step does to them (document 01; document 02,
-//! Req 01 and Req 02).
+//! Req 01, Req 02 and Req 04).
 
 mod chain;
 mod few;
@@ -15,8 +15,10 @@ use switch::Switch;
 pub const OBJECTS: u16 = 1024;
 /// The most packets waiting, writes linked, and operations open.
 pub const FULL: usize = 64;
-/// The most replicas at a start.
+/// The most replicas at a start, and the most live at any time.
 pub const REPLICAS: u8 = 8;
+/// The last number that a replica can have.
+pub const LAST_NUMBER: u8 = 255;
 
 /// Switch number and counter, compared by switch number first (P1).
 #[derive(Clone, Copy, Debug, Default, PartialEq, Eq, PartialOrd, Ord)]
@@ -42,9 +44,10 @@ pub type Objects = Few<u16>;
 /// Their values, in the same order; one value for a write.
 pub type Values = Few<u32>;
 
-/// A step after the start: tags 1 to 10 of "Steps and their records", and tag
-/// 11, which begins a read of a context. A step handed over may have any number
-/// of objects there.
+/// A step after the start: tags 1 to 10 of "Steps and their records", tag 11,
+/// which begins a read of a context, tag 12, which begins a join, and tag 13,
+/// which copies for it. A step handed over may have any number of objects in a
+/// context.
 #[derive(Clone, Copy, Debug, PartialEq, Eq)]
 pub enum Step {
     Read { object: u16 },
@@ -58,6 +61,8 @@ pub enum Step {
     Remove { replica: u8 },
     GiveUp { operation: u16 },
     Context { objects: Objects },
+    Join,
+    Copy,
 }
 
 /// The rows of "Turned down", by their numbers.
@@ -80,6 +85,9 @@ pub enum Refusal {
     InputTooLong = 14,
     BufferTooShort = 15,
     NamedTwice = 16,
+    NoNewcomer = 17,
+    JoinUnderWay = 18,
+    NoJoin = 19,
 }
 
 impl Refusal {
@@ -121,7 +129,8 @@ impl Age {
 
 /// How a reply came about: by a write; by a direct read; by a read that the
 /// switch sent to the tail; by a direct read that a replica sent on to the
-/// tail. It is not printed.
+/// tail. A former tail that sends a normal read on leaves it as it is. It is not
+/// printed.
 #[derive(Clone, Copy, Debug, PartialEq, Eq)]
 pub enum Way {
     Write,
@@ -297,6 +306,8 @@ impl Model {
             Step::Remove { replica } => self.remove(replica),
             Step::GiveUp { operation } => self.give_up(operation),
             Step::Context { objects } => self.begin_context(objects),
+            Step::Join => self.join(),
+            Step::Copy => self.copy(),
         }
     }
 
@@ -392,7 +403,8 @@ impl Model {
         place.is_some_and(|place| self.chain.is_tail(place))
     }
 
-    /// The packet that comes of an unstamped write or a read, if any.
+    /// The packet that comes of an unstamped write or a read, if any. "A normal
+    /// read that reaches a former tail is sent on to the present one."
     fn passed_on(&mut self, packet: Packet, choice: u8) -> Option<Packet> {
         match packet {
             Packet::UnstampedWrite {
@@ -424,7 +436,11 @@ impl Model {
                 carried,
                 way,
             } => {
-                let held = held_of(self.chain.replica(to)?, objects);
+                let replica = self.chain.replica(to)?;
+                if to != self.chain.tail() {
+                    return Some(self.to_tail(operation, objects, carried, way));
+                }
+                let held = held_of(replica, objects);
                 Some(answered(operation, held, carried, way))
             }
             _ => None,
@@ -590,6 +606,28 @@ impl Model {
         }
         Ok(None)
     }
+
+    /// Tag 12. Order 17, 18.
+    fn join(&mut self) -> Answer {
+        let full = self.chain.live().len() >= usize::from(REPLICAS);
+        if full || self.chain.given() == LAST_NUMBER {
+            return Err(Refusal::NoNewcomer);
+        }
+        if self.chain.newcomer().is_some() {
+            return Err(Refusal::JoinUnderWay);
+        }
+        self.chain.begin_join();
+        Ok(None)
+    }
+
+    /// Tag 13.
+    fn copy(&mut self) -> Answer {
+        if self.chain.newcomer().is_none() {
+            return Err(Refusal::NoJoin);
+        }
+        self.chain.copy();
+        Ok(None)
+    }
 }
 
 /// What can be seen of the state.
@@ -666,6 +704,37 @@ impl Model {
     /// The last operation number given, 0 if none.
     pub fn begun(&self) -> u16 {
         self.begun
+    }
+
+    /// The last number given to a replica, live or not.
+    pub fn given(&self) -> u8 {
+        self.chain.given()
+    }
+
+    /// The newcomer's number, if a join is under way.
+    pub fn newcomer(&self) -> Option<u8> {
+        self.chain.newcomer().map(|n| n.name())
+    }
+
+    /// The objects below this one are copied to the newcomer; 0 without a join.
+    pub fn copied(&self) -> u16 {
+        self.chain.newcomer().map_or(0, |n| n.copied())
+    }
+
+    /// Value and stamp of an object at the newcomer, if a join is under way.
+    pub fn held_by_newcomer(&self, object: u16) -> Option<Held> {
+        if object >= OBJECTS {
+            return None;
+        }
+        self.chain.newcomer().map(|n| n.held(object))
+    }
+
+    /// Puts other things in the place of what the newcomer holds of an object,
+    /// for a program that is wrong on purpose. No step does this.
+    pub fn falsify_newcomer(&mut self, object: u16, held: Held) {
+        if let (Some(newcomer), true) = (self.chain.newcomer_mut(), object < OBJECTS) {
+            newcomer.falsify(object, held);
+        }
     }
 
     /// Puts another packet in the place of the newest one, for a program that

@@ -1,6 +1,9 @@
 //! Looks for an order of the operations of a run (document 01, "The run that
-//! demand 3 speaks of"; document 02, Req 02) by trying all of them, after Wing
-//! and Gong.
+//! demand 3 speaks of"; document 02, Req 02 and Req 04) by trying all of them,
+//! after Wing and Gong.
+//!
+//! Only operations count against its limit: a run may have any number of other
+//! steps, such as the copies of a join.
 
 use crate::model::{Age, Few, Objects, Step, Values};
 use crate::records::{Reader, Record};
@@ -426,6 +429,34 @@ mod tests {
         let read = context(&[6, 5], &[9, 0], 8, 11);
         assert_eq!(operations, [write(6, 9, 2, Some(5)), read]);
         assert_eq!(find_order(&operations), Some(vec![1, 2]));
+    }
+
+    /// A write during a join that the newcomer hears of, and reads before and
+    /// after it becomes the tail, the latter with the other replica gone. The
+    /// steps of the join are no operations.
+    #[test]
+    fn the_history_of_a_run_with_a_join() {
+        let input = file(
+            "start 1; join; copy; read 5; 3 * deliver 0; write 5 9; 4 * deliver 0; 15 * copy; \
+             remove 1; read 5; 3 * deliver 0",
+        );
+        let operations = history(&input, &output(&input)).unwrap();
+        let before = read(5, 0, 4, 7);
+        let after = |value| read(5, value, 29, 32);
+        let write = write(5, 9, 8, Some(11));
+        assert_eq!(operations, [before, write, after(9)]);
+        assert_eq!(find_order(&operations), Some(vec![1, 2, 3]));
+        let missed = [before, write, after(0)];
+        assert_eq!(find_order(&missed), None, "the newcomer missed the write");
+    }
+
+    /// 64 operations and several hundred copies.
+    #[test]
+    fn copies_do_not_count_against_the_limit() {
+        let input = file("start 1; 7 * (join; 16 * copy); 64 * (read 5; 3 * deliver 0; copy)");
+        let operations = history(&input, &output(&input)).unwrap();
+        assert_eq!(operations.len(), 64);
+        assert_eq!(find_order(&operations), Some((1..=64).collect()));
     }
 
     #[test]

@@ -1,5 +1,5 @@
 //! Records: "a one-byte tag, a two-byte length, the content" (document 01;
-//! document 02, Req 02).
+//! document 02, Req 02 and Req 04).
 
 use crate::model::{Objects, Refusal, Step, MOST};
 
@@ -82,6 +82,8 @@ fn meaning(tag: u8, content: &[u8]) -> Option<Record> {
         (11, pairs) if matches!(pairs.len(), 4 | 6 | 8 | 10 | 12 | 14 | 16) => Step::Context {
             objects: pairs.chunks_exact(2).map(|p| two(p[0], p[1])).collect(),
         },
+        (12, &[]) => Step::Join,
+        (13, &[]) => Step::Copy,
         _ => return None,
     };
     Some(Record::Step(step))
@@ -138,6 +140,8 @@ fn laid_out(record: Record) -> Result<LaidOut, Refusal> {
         Step::Remove { replica } => tagged(9, &[replica]),
         Step::GiveUp { operation } => pair(10, operation),
         Step::Context { objects } => context(objects)?,
+        Step::Join => tagged(12, &[]),
+        Step::Copy => tagged(13, &[]),
     })
 }
 
@@ -180,7 +184,7 @@ pub fn pieces(file: &[u8]) -> Vec<&[u8]> {
 mod tests {
     use super::*;
 
-    fn all() -> [(Record, &'static [u8]); 13] {
+    fn all() -> [(Record, &'static [u8]); 15] {
         let step = Record::Step;
         [
             (Record::Start { replicas: 8 }, &[32, 0, 1, 8]),
@@ -213,6 +217,8 @@ mod tests {
                     11, 0, 16, 0, 9, 0, 8, 0, 7, 0, 6, 0, 5, 0, 4, 1, 3, 255, 255,
                 ],
             ),
+            (step(Step::Join), &[12, 0, 0]),
+            (step(Step::Copy), &[13, 0, 0]),
         ]
     }
 
@@ -257,14 +263,14 @@ mod tests {
     }
 
     #[test]
-    fn only_twelve_tags_are_known() {
+    fn only_fourteen_tags_are_known() {
         for tag in 0..=255u8 {
             let known = (0..10u8).any(|length| {
                 let mut file = vec![tag, 0, length];
                 file.resize(12, 1);
                 read(&file).is_some()
             });
-            assert_eq!(known, (1..=11).contains(&tag) || tag == 32);
+            assert_eq!(known, (1..=13).contains(&tag) || tag == 32);
         }
     }
 

@@ -186,6 +186,20 @@ mod tests {
         assert_eq!(text(&input), lines);
     }
 
+    /// A join begins, is refused a second time, and becomes whole; its lines are
+    /// as those of any step that finishes nothing.
+    #[test]
+    fn lines_of_a_join() {
+        let input =
+            file("start 2; copy; join; join; read 5; copy; tell 3; 15 * copy; tell 3; copy");
+        let plain = |numbers: std::ops::RangeInclusive<usize>| -> String {
+            numbers.map(|n| format!("{n} ok 1 0 - - -\n")).collect()
+        };
+        let start = "1 ok 0 0 - - -\n2 no 19\n3 ok 0 0 - - -\n4 no 18\n";
+        let lines = format!("{start}{}7 no 9\n{}24 no 19\n", plain(5..=6), plain(8..=23));
+        assert_eq!(text(&input), lines);
+    }
+
     #[test]
     fn ends_of_a_run() {
         assert_eq!(text(&[]), "1 no 1\n");

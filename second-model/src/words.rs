@@ -5,9 +5,10 @@ use crate::model::Step;
 use crate::records::{append, read, Record};
 
 /// The record file that some words say. `N * step` and `N * (step; step)` are
-/// done N times, `deliver P` has choice 0, `read` with several objects is a read
-/// of a context, `bytes B ...` are raw bytes, and `fill L` puts zeros up to
-/// length L.
+/// done N times, `each A to B by C (step; step)` is done for A, A + C and so on up
+/// to B, with the number for each `#`, `deliver P` has choice 0, `read` with
+/// several objects is a read of a context, `bytes B ...` are raw bytes, and
+/// `fill L` puts zeros up to length L.
 ///
 /// Panics if the words make no sense: they are written in this program.
 pub fn file(words: &str) -> Vec<u8> {
@@ -24,6 +25,10 @@ fn add_all(words: &str, file: &mut Vec<u8>) {
         c == ';' && depth == 0
     });
     for phrase in ends.map(str::trim).filter(|p| !p.is_empty()) {
+        if let Some(rest) = phrase.strip_prefix("each ") {
+            add_each(rest, file);
+            continue;
+        }
         match phrase.split_once('*') {
             Some((times, rest)) => {
                 let rest = rest.trim().trim_start_matches('(').trim_end_matches(')');
@@ -31,6 +36,19 @@ fn add_all(words: &str, file: &mut Vec<u8>) {
             }
             None => add(phrase, file),
         }
+    }
+}
+
+/// Adds `A to B by C (step; step)` to a file.
+fn add_each(words: &str, file: &mut Vec<u8>) {
+    let (range, steps) = words.split_once('(').expect("steps in brackets");
+    let steps = steps.strip_suffix(')').expect("steps in brackets");
+    let range: Vec<&str> = range.split_whitespace().collect();
+    let [first, "to", last, "by", by] = range[..] else {
+        panic!("no range: {range:?}");
+    };
+    for each in (number(first)..=number(last)).step_by(number(by) as usize) {
+        add_all(&steps.replace('#', &each.to_string()), file);
     }
 }
 
@@ -69,6 +87,8 @@ fn record(phrase: &str) -> Record {
         ("read", &[_, _, ..]) => Step::Context {
             objects: fields.iter().map(|&object| object as u16).collect(),
         },
+        ("join", &[]) => Step::Join,
+        ("copy", &[]) => Step::Copy,
         (verb, &[field]) => with_one_field(verb, field),
         _ => panic!("no step: {phrase:?}"),
     };
@@ -120,6 +140,8 @@ pub fn describe(piece: &[u8]) -> String {
             let objects: Vec<String> = objects.each().map(|o| o.to_string()).collect();
             format!("read {}", objects.join(" "))
         }
+        Step::Join => "join".to_string(),
+        Step::Copy => "copy".to_string(),
     }
 }
 
@@ -154,10 +176,19 @@ mod tests {
     }
 
     #[test]
+    fn each_of_some_numbers() {
+        let made = file("start 1; each 2 to 7 by 2 (tell #; 2 * copy); join");
+        let same = "start 1; tell 2; copy; copy; tell 4; copy; copy; tell 6; copy; copy; join";
+        assert_eq!(made, file(same));
+        assert_eq!(&made[made.len() - 6..], [13, 0, 0, 12, 0, 0]);
+    }
+
+    #[test]
     fn describing_and_making_are_inverse() {
         let words = "start 3; read 1; write 2 3; deliver 4 5; lose 6; repeat 7; \
                      advance 8; replace 9; tell 10; remove 11; give up 12; read 14 13; \
-                     read 22 21 20 19 18 17 16 15; bytes 11 0 2 0 5; bytes 1 2";
+                     read 22 21 20 19 18 17 16 15; join; copy; bytes 11 0 2 0 5; \
+                     bytes 12 0 1 0; bytes 1 2";
         let made = file(words);
         let told: Vec<String> = pieces(&made).into_iter().map(describe).collect();
         assert_eq!(told.join("; "), words);

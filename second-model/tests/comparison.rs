@@ -1,8 +1,10 @@
 //! `compare` agrees with this model's own program, and can fail.
 
 use second_model::compare::printed;
+use second_model::examples::all;
 use second_model::generate::generate;
 use second_model::order::{find_order, history};
+use second_model::records::pieces;
 use second_model::run::output;
 use std::fs;
 use std::path::{Path, PathBuf};
@@ -32,6 +34,11 @@ fn no_difference_with_itself() {
         "context, tail",
         "context, rejected",
         "no 16",
+        "join, begun",
+        "join, whole",
+        "no 17",
+        "no 18",
+        "no 19",
     ];
     for word in answers {
         let (_, after) = text.split_once(&format!("\n{word}  ")).unwrap();
@@ -119,6 +126,64 @@ fn a_wrong_context_leaves_a_small_run_without_an_order() {
         without += usize::from(!found(&printed(program, &input, &path).unwrap()));
     }
     assert!(without >= 5, "{without}");
+}
+
+/// A write during a join that the newcomer misses: a read of one object or of
+/// several has another value or age there.
+#[test]
+fn a_wrong_join_is_found_and_the_file_shortened() {
+    let kept = difference(env!("CARGO_BIN_EXE_wrong-join-run"), "wrong-join");
+    let steps: Vec<u8> = pieces(&kept.short).into_iter().map(|p| p[0]).collect();
+    let count = |tag| steps.iter().filter(|&&t| t == tag).count();
+    assert!(count(2) >= 1 && count(12) >= 1 && count(13) >= 16);
+    let (ours, theirs) = (kept.ours.lines().last(), kept.theirs.lines().last());
+    assert_ne!(ours, theirs);
+    assert!(ours.is_some_and(|line| line.contains(" ok ")), "{ours:?}");
+    // A start, a join with its copies, a write, a read and six deliveries have
+    // 105 bytes; there may be other joins, since the chain must stay alike.
+    let length = kept.short.len();
+    assert!((105..2000).contains(&length), "{length} bytes");
+}
+
+/// The stored examples about writes to copied objects notice it, those about
+/// other objects do not.
+#[test]
+fn a_wrong_join_is_seen_in_the_examples() {
+    let path = PathBuf::from(env!("CARGO_TARGET_TMPDIR")).join("example.records");
+    let program = Path::new(env!("CARGO_BIN_EXE_wrong-join-run"));
+    let examples = all().into_iter();
+    let seen = examples.filter(|e| output(&e.input) != printed(program, &e.input, &path).unwrap());
+    let seen: Vec<&str> = seen.map(|e| e.name).collect();
+    for name in [
+        "write-to-a-copied-object-reaches-the-newcomer",
+        "write-of-a-lone-replica-reaches-the-newcomer",
+        "write-of-the-last-object-copied",
+        "write-after-the-fifteenth-copy-to-a-copied-object",
+        "stamp-of-a-write-meanwhile-sends-a-direct-read-on",
+    ] {
+        assert!(seen.contains(&name), "{name} not among {seen:?}");
+    }
+    assert!(!seen.contains(&"write-to-an-object-not-yet-copied-is-copied-later"));
+    assert!(!seen.contains(&"write-before-the-first-copy-is-copied"));
+}
+
+/// The wrong program's small runs do not all have an order; this model's have.
+#[test]
+fn a_wrong_join_leaves_a_small_run_without_an_order() {
+    let folder = PathBuf::from(env!("CARGO_TARGET_TMPDIR"));
+    let path = folder.join("small-joins.records");
+    let program = Path::new(env!("CARGO_BIN_EXE_wrong-join-run"));
+    let (mut differ, mut without) = (0, 0);
+    for seed in 0..400 {
+        let input = generate("small-joins", seed, 700).unwrap();
+        let found = |lines: &[u8]| find_order(&history(&input, lines).unwrap()).is_some();
+        let (ours, theirs) = (output(&input), printed(program, &input, &path).unwrap());
+        assert!(found(&ours), "seed {seed}");
+        differ += usize::from(ours != theirs);
+        without += usize::from(!found(&theirs));
+    }
+    println!("{differ} of 400 small runs differ, {without} have no order");
+    assert!(differ >= 20 && without >= 10, "{differ}, {without}");
 }
 
 #[test]

@@ -1,14 +1,17 @@
 //! The random files reach every rule of document 01 and each way it drops, reads
-//! of every age in many situations (document 02, Req 01), and reads of contexts
-//! in as many (Req 02).
+//! of every age in many situations (document 02, Req 01), reads of contexts in as
+//! many (Req 02), and joins (Req 04).
 
 #[path = "coverage/ages.rs"]
 mod ages;
 #[path = "coverage/contexts.rs"]
 mod contexts;
+#[path = "coverage/joins.rs"]
+mod joins;
 
 use ages::Ages;
 use contexts::Contexts;
+use joins::Joins;
 use second_model::compare::{file, Tally, Task};
 use second_model::generate::KINDS;
 use second_model::model::{Answer, Model, Packet, Refusal, Stamp, Step, FULL};
@@ -71,7 +74,7 @@ fn comparison() -> Task {
 }
 
 #[test]
-fn every_rule_every_age_and_every_context_is_reached() {
+fn every_rule_every_age_every_context_and_every_join_is_reached() {
     let task = comparison();
     let mut seen = Seen::new();
     for index in 0..task.files {
@@ -80,9 +83,10 @@ fn every_rule_every_age_and_every_context_is_reached() {
     let rules = WANTED.into_iter().map(|event| (event, LEAST));
     let mut seldom = String::new();
     let ages = ages::WANTED.into_iter().chain(contexts::WANTED);
-    for (event, least) in rules.chain([RARE]).chain(ages) {
+    let joins = joins::WANTED.into_iter();
+    for (event, least) in rules.chain([RARE]).chain(ages).chain(joins) {
         let times = seen.get(event).copied().unwrap_or(0);
-        println!("{event:<42} {times:>9}");
+        println!("{event:<56} {times:>9}");
         if times < least {
             seldom += &format!("{event}: {times}, not {least}\n");
         }
@@ -115,6 +119,49 @@ fn small_runs_have_contexts_of_every_way() {
     for ((name, times), least) in tally.contexts.rows().into_iter().zip([200, 200, 40]) {
         assert!(times >= least, "{name}: {times}");
     }
+}
+
+/// Of the small runs a third has joins; most of those have a whole one.
+#[test]
+fn small_runs_have_whole_joins() {
+    let task = comparison();
+    let (mut runs, mut whole) = (0, 0);
+    for index in task.files..task.files + task.small {
+        let (kind, file) = file(&task, index);
+        if kind == "small-joins" {
+            let mut tally = Tally::default();
+            tally.count(&file);
+            runs += 1;
+            whole += usize::from(tally.joins.whole > 0);
+        }
+    }
+    println!("{whole} of {runs} small runs have a whole join");
+    assert!(runs >= 160 && whole * 10 >= runs * 7, "{whole} of {runs}");
+}
+
+/// Wrong lengths of tags 12 and 13, and the next tag, end a run; some are cut
+/// short, before the length or in the content.
+#[test]
+fn every_fault_of_a_join_is_reached() {
+    let task = comparison();
+    let mut faults: BTreeMap<(u8, &str), usize> = BTreeMap::new();
+    for index in (0..task.files).filter(|index| KINDS[index % KINDS.len()].0 == "join-faults") {
+        let file = file(&task, index).1;
+        if file.len() <= INPUT_LONGEST {
+            let fault = Reader::new(&file).position(|record| record.is_err());
+            let fault = fault.and_then(|place| joins::fault(&file, place));
+            if let Some(fault) = fault {
+                *faults.entry(fault).or_default() += 1;
+            }
+        }
+    }
+    println!("{faults:?}");
+    for tag in [12, 13] {
+        for sort in ["no length", "length 1", "length 2", "long", "cut"] {
+            assert!(faults.contains_key(&(tag, sort)), "{tag}, {sort}");
+        }
+    }
+    assert!(faults.keys().any(|(tag, _)| *tag == 14));
 }
 
 /// What ends a run or refuses a context in one file, by places and lengths.
@@ -194,6 +241,7 @@ fn watch(file: &[u8], seen: &mut Seen) {
     };
     let mut ages = Ages::default();
     let mut contexts = Contexts::default();
+    let mut joins = Joins::default();
     for record in reader {
         let Ok(Record::Step(step)) = record else {
             return;
@@ -201,6 +249,7 @@ fn watch(file: &[u8], seen: &mut Seen) {
         let early = before(&model, step);
         let mut events = ages.before(&model, step);
         events.extend(contexts.before(&model, step));
+        events.extend(joins.before(&model, step));
         let waiting = model.waiting();
         let answer = model.step(step);
         let late = match early {
@@ -211,6 +260,7 @@ fn watch(file: &[u8], seen: &mut Seen) {
         events.extend(early.into_iter().chain(late));
         events.extend(ages.after(&model, answer));
         events.extend(contexts.after(&model, step, answer));
+        joins.after(&model, step, answer);
         for event in events {
             *seen.entry(event).or_default() += 1;
         }
@@ -266,6 +316,7 @@ fn delivery(model: &Model, packet: Packet) -> Option<&'static str> {
         Packet::NormalRead { objects, .. } if objects.is_context() => return None,
         Packet::NormalRead { to, .. } => match model.permits(to) {
             None => "normal read: gone",
+            Some(_) if model.live().last() != Some(to) => return None,
             Some(_) => "normal read: answered",
         },
         Packet::Completion { stamp, .. } if stamp < Stamp::new(now, 0) => {

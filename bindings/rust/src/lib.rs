@@ -3,16 +3,20 @@
 
 mod raw;
 
-use raw::{Packet, Session, OPENS, PLACES, STORE, SWITCH};
+use raw::{Packet, Session, CHAIN, OPENS, PLACES, STORE, SWITCH};
 
-/// The most bytes that a record, a line and an input have, and room for the
-/// output of any input.
+/// The fewest bytes that a record has (tags 12 and 13, which have no content), the
+/// most that a record, a line and an input have, and room for the output of any
+/// input, which has 21,845 records at the most.
+pub const SHORTEST_RECORD: usize = 3;
 pub const LONGEST_RECORD: usize = 19;
 pub const LONGEST_LINE: usize = 137;
 pub const LONGEST_INPUT: usize = 65_536;
-pub const OUTPUT_ROOM: usize = 2_359_296;
+pub const OUTPUT_ROOM: usize = 3_014_656;
 /// The most objects that one read names.
 pub const LONGEST_CONTEXT: usize = 8;
+/// The most replicas that are live at a time.
+pub const REPLICAS: usize = 8;
 
 /// What a step answers; a refusal is the number that document 01 or 02 gives it.
 #[derive(Clone, Copy, Debug, PartialEq, Eq)]
@@ -83,6 +87,22 @@ impl Freshness {
     }
 }
 
+/// The replicas that there are: the numbers of the live ones, the head's first, and
+/// the one that joins, which is not live.
+#[derive(Clone, Debug, PartialEq, Eq)]
+pub struct Chain {
+    pub live: Vec<u8>,
+    pub newcomer: Option<Newcomer>,
+}
+
+/// A replica that joins: its number, and how many copies it has, 0 to 15. It holds
+/// the first 64 objects for each; the sixteenth copy makes it the tail.
+#[derive(Clone, Copy, Debug, PartialEq, Eq)]
+pub struct Newcomer {
+    pub number: u8,
+    pub copies: u8,
+}
+
 /// A store of replicas behind a switch, with the memory that the library works in.
 #[derive(Clone)]
 pub struct Model(Box<Lent>);
@@ -100,7 +120,7 @@ struct Lent {
 }
 
 impl Model {
-    /// An empty store of `n` replicas, or refusal 2.
+    /// An empty store of `n` replicas, numbered from 1, or refusal 2.
     pub fn start(n: u8) -> Result<Model, u8> {
         // Every field is made of numbers, which zeros are.
         let lent = unsafe { Box::<Lent>::new_zeroed().assume_init() };
@@ -127,7 +147,10 @@ impl Model {
         }
     }
 
-    /// The step of one record.
+    /// The step of one record. Refusals of joins: tag 12 by 17 where eight replicas
+    /// are live or number 255 has been given, then by 18 where a join is under way;
+    /// tag 13 by 19 where none is, then by 17 where eight are live, which in a run
+    /// never happens.
     #[inline]
     pub fn step(&mut self, record: &[u8]) -> Answer {
         self.step_within(PLACES, record)
@@ -198,16 +221,34 @@ impl Model {
         }
     }
 
-    /// The value of an object at a replica, 0 where there is none.
+    /// The value of an object at a replica, by its number, 1 to 255. Only the live
+    /// replicas and one that joins hold any: 0 where there is no such replica or
+    /// object, and from the step on that removes a replica or ends its join. One that
+    /// joins has an object from the copy of it on, and 0 before.
     #[inline]
     pub fn value(&self, replica: u8, object: u32) -> u32 {
         unsafe { raw::woldladle_value(self.0.store.as_ptr(), replica, object) }
     }
 
-    /// Its stamp: the switch number times 65,536, and the counter.
+    /// Its stamp: the switch number times 65,536, and the counter; 0 where the value
+    /// is 0 for want of a replica, an object or a copy.
     #[inline]
     pub fn stamp(&self, replica: u8, object: u32) -> u32 {
         unsafe { raw::woldladle_stamp(self.0.store.as_ptr(), replica, object) }
+    }
+
+    /// The live replicas in chain order, and the one that joins.
+    pub fn chain(&self) -> Chain {
+        let mut told = [0; CHAIN];
+        let count = unsafe { raw::woldladle_chain(self.0.store.as_ptr(), told.as_mut_ptr()) };
+        let (live, newcomer) = told.split_at(REPLICAS);
+        Chain {
+            live: live[..usize::from(count)].to_vec(),
+            newcomer: (newcomer[0] != 0).then_some(Newcomer {
+                number: newcomer[0],
+                copies: newcomer[1],
+            }),
+        }
     }
 
     /// All that the next step begins with, as bytes: for tests that a refusal
@@ -231,9 +272,9 @@ impl Model {
 }
 
 /// Writes the record of a tag with its numbers, 0 for one that it does not
-/// have, at the start of `out`: how many bytes it has, or refusal 1 where no such
-/// record exists (tag 11 has `write_context`), or 15. A refusal leaves `out` as it
-/// was.
+/// have (tags 12 and 13 have none), at the start of `out`: how many bytes it has,
+/// or refusal 1 where no such record exists (tag 11 has `write_context`), or 15. A
+/// refusal leaves `out` as it was.
 #[inline]
 pub fn write_record(tag: u8, first: u32, second: u32, out: &mut [u8]) -> Result<usize, u8> {
     let (to, room) = (out.as_mut_ptr(), out.len());
@@ -257,8 +298,8 @@ pub fn write_context(objects: &[u16], out: &mut [u8]) -> Result<usize, u8> {
     }
 }
 
-/// How many bytes the record of a tag has, 0 for an unknown tag and for tag 11,
-/// whose record has no fixed length.
+/// How many bytes the record of a tag has, from 3 (tags 12 and 13) to 9; 0 for an
+/// unknown tag and for tag 11, whose record has no fixed length.
 #[inline]
 pub fn record_length(tag: u8) -> usize {
     usize::from(unsafe { raw::woldladle_record_length(tag) })
@@ -277,6 +318,8 @@ mod tests {
 
     const BEGIN_A_READ: [u8; 5] = [1, 0, 2, 0, 5];
     const DELIVER: [u8; 6] = [3, 0, 3, 0, 0, 0];
+    const JOIN: [u8; 3] = [12, 0, 0];
+    const COPY: [u8; 3] = [13, 0, 0];
 
     #[test]
     fn fewer_than_64_places_are_refused_by_15() {
@@ -309,6 +352,9 @@ mod tests {
             (&one_object, 63, 1),
             (&named_twice, 63, 15),
             (&named_twice, 64, 16),
+            (&[13, 0, 1, 0], 63, 1),
+            (&COPY, 63, 15),
+            (&COPY, 64, 19),
         ] {
             assert_eq!(model.step_within(places, record), Answer::Refused(refusal));
             assert!(model.bytes() == before, "{record:?}");
@@ -393,6 +439,28 @@ mod tests {
         assert_eq!(marks_after(None, &DELIVER), (0, false)); // the completion
         assert_eq!(marks_after(Some(7), &REPLACE), (0, false));
         assert_eq!(marks_after(Some(7), &REPLACE), (7, true));
+    }
+
+    /// In no run is a join under way with eight live; a state with both is refused.
+    #[test]
+    fn a_copy_with_eight_live_is_refused_by_17() {
+        let mut model = Model::start(8).expect("eight");
+        assert_eq!(model.step(&COPY), Answer::Refused(19));
+        for made in 1..=17 {
+            model.0.store[STORE - 1] = made;
+            let before = model.bytes();
+            for record in [COPY, JOIN] {
+                assert_eq!(model.step(&record), Answer::Refused(17), "{made}");
+                assert!(model.bytes() == before, "{made}");
+            }
+            assert_eq!(model.chain().live, [1, 2, 3, 4, 5, 6, 7, 8]);
+        }
+    }
+
+    #[test]
+    fn the_shortest_record_has_three_bytes() {
+        let lengths = (0..=255).map(record_length).filter(|length| *length > 0);
+        assert_eq!(lengths.min(), Some(SHORTEST_RECORD));
     }
 
     /// The line of record 5, with 2 packets and 1 mark, from these fields.

@@ -1,9 +1,10 @@
 //! The libraries' functions and structs, as bindings/c/woldladle.h declares them.
 
 pub const SWITCH: usize = 101;
-pub const STORE: usize = 16_673;
+pub const STORE: usize = 16_675;
 pub const OPENS: usize = 642;
 pub const PLACES: usize = 64;
+pub const CHAIN: usize = 10;
 
 /// The answer of the last start or step.
 #[repr(C)]
@@ -70,5 +71,6 @@ extern "C" {
     pub fn woldladle_record_length(tag: u8) -> u16;
     pub fn woldladle_value(store: *const u32, replica: u8, object: u32) -> u32;
     pub fn woldladle_stamp(store: *const u32, replica: u8, object: u32) -> u32;
+    pub fn woldladle_chain(store: *const u32, out: *mut u8) -> u8;
     pub fn woldladle_run(input: *const u8, length: usize, out: *mut u8, room: usize) -> usize;
 }

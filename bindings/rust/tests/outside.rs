@@ -1,9 +1,11 @@
 //! The two libraries from outside, in one program: the same lines as the second
 //! model, refusals that change nothing, and what a file of records cannot reach.
-//! Reads of several objects have a module of their own.
+//! Reads of several objects and joins have modules of their own.
 
 #[path = "outside/contexts.rs"]
 mod contexts;
+#[path = "outside/joins.rs"]
+mod joins;
 
 use second_model::generate::{generate, Random, KINDS};
 use second_model::{records, run::output};
@@ -75,9 +77,10 @@ fn a_short_buffer_takes_whole_lines_only() {
     }
 }
 
-/// Writes a record of any tag, with small fields or large ones.
-fn random_fields(random: &mut Random, record: &mut [u8]) -> Result<usize, u8> {
-    let tag = random.within(0, 12) as u8;
+/// Writes a record of any tag, with small fields or large ones. The numbers of
+/// newcomers rise, so half of the advances and tells name a live replica.
+fn random_fields(random: &mut Random, model: &Model, record: &mut [u8]) -> Result<usize, u8> {
+    let tag = random.within(0, 14) as u8;
     let (most, count) = if random.chance(500) {
         (8, 3)
     } else {
@@ -88,14 +91,21 @@ fn random_fields(random: &mut Random, record: &mut [u8]) -> Result<usize, u8> {
         let objects: Vec<u16> = objects.map(|_| random.below(most) as u16).collect();
         return write_context(&objects, record);
     }
+    if matches!(tag, 12 | 13) {
+        return write_record(tag, 0, 0, record);
+    }
+    if matches!(tag, 6 | 8) && random.chance(500) {
+        let replica = random.one_of(&model.chain().live);
+        return write_record(tag, replica.into(), 0, record);
+    }
     let numbers = (random.below(most) as u32, random.below(count) as u32);
     write_record(tag, numbers.0, numbers.1, record)
 }
 
 /// Random bytes, random fields, or a step that may be accepted.
-fn random_record(random: &mut Random) -> Vec<u8> {
+fn random_record(random: &mut Random, model: &Model) -> Vec<u8> {
     let mut record = vec![0; LONGEST_RECORD];
-    match random_fields(random, &mut record) {
+    match random_fields(random, model, &mut record) {
         Ok(size) if random.chance(950) => record.truncate(size),
         _ => {
             record.truncate(random.below(LONGEST_RECORD + 1));
@@ -112,7 +122,7 @@ fn a_refusal_changes_no_byte() {
     for n in 1..=8 {
         let mut model = Model::start(n).expect("1 to 8");
         for _ in 0..1500 {
-            let record = random_record(&mut random);
+            let record = random_record(&mut random, &model);
             let before = model.bytes();
             match model.step(&record) {
                 Answer::Refused(_) => {
@@ -140,7 +150,7 @@ fn a_refused_restart_leaves_the_session_going_on() {
         }
         let size = restarted.line(number, &mut other);
         assert_eq!(other[..size], *format!("{number} no 2\n").as_bytes());
-        let record = random_record(&mut random);
+        let record = random_record(&mut random, &model);
         assert_eq!(restarted.step(&record), model.step(&record));
         assert!(restarted.bytes() == model.bytes(), "{record:?}");
         let sizes = (
@@ -163,6 +173,43 @@ fn step(model: &mut Model, tag: u8, first: u32, second: u32) -> Answer {
     let mut record = [0; LONGEST_RECORD];
     let size = write_record(tag, first, second, &mut record).expect("a record");
     model.step(&record[..size])
+}
+
+/// Steps that finish nothing.
+fn done(model: &mut Model, steps: &[(u8, u32, u32)]) {
+    for &(tag, first, second) in steps {
+        let answer = step(model, tag, first, second);
+        assert_eq!(answer, Answer::Done, "{tag} {first} {second}");
+    }
+}
+
+/// Delivers the packet at a position, with choice 0.
+fn deliver(model: &mut Model, position: u32) -> Answer {
+    step(model, 3, position, 0)
+}
+
+/// The line of the last step.
+fn line(model: &Model, number: u32) -> String {
+    let mut line = [0; LONGEST_LINE];
+    let size = model.line(number, &mut line);
+    String::from_utf8_lossy(&line[..size]).into_owned()
+}
+
+/// The step is refused and changes no byte.
+fn refused(model: &mut Model, record: &[u8], refusal: u8) {
+    let before = model.bytes();
+    let answer = model.step(record);
+    assert_eq!(answer, Answer::Refused(refusal), "{record:?}");
+    assert!(model.bytes() == before, "{record:?}");
+    assert_eq!(line(model, 7), format!("7 no {refusal}\n"));
+}
+
+/// Everything that `run` gives for a file.
+fn whole(file: &[u8]) -> Vec<u8> {
+    let mut out = vec![0; OUTPUT_ROOM];
+    let size = run(file, &mut out);
+    out.truncate(size);
+    out
 }
 
 fn finished(operation: u32, value: u32, freshness: Freshness) -> Answer {
@@ -239,7 +286,9 @@ fn starts_of_1_to_8_stand() {
 fn records_are_written_whole_or_not_at_all() {
     let mut random = Random::new(5);
     for _ in 0..20_000 {
-        let tag = random.one_of(&[32, 1, 2, 3, 4, 5, 6, 7, 8, 9, 10, 0, 11, 33, 255]);
+        let tag = random.one_of(&[
+            32, 1, 2, 3, 4, 5, 6, 7, 8, 9, 10, 12, 13, 0, 11, 14, 33, 255,
+        ]);
         let first = random.one_of(&[0, 1, 255, 256, 1023, 65_535, 65_536, u32::MAX]);
         let second = random.one_of(&[0, 0, 1, 255, 256, u32::MAX]);
         let mut out = vec![0xaa; random.below(12)];

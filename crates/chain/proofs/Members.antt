@@ -1,19 +1,18 @@
--- The laws of the chain's shape for the crates above, so that they never open its cells: who is a member, and at which place.
+-- The laws of the chain's shape for the crates above, so that they never open its cells: which tables are its members', and at which places.
 use mathlib.Core.Path.{_≡_, refl, sym, ap, _∙_}
 use mathlib.Core.Bool.{Bool, true, false, cond}
 use mathlib.Core.List.{List, List·Memᴰ, Memᴰ·cast}
-use Prim.Native.Nat.{ℕ, _-_, _%_, _≤_, _<_}
-use native.Mathlib.Nat.{mod-lt}
+use Prim.Native.Nat.{ℕ, _-_, _≤_, _<_}
 use native.Mathlib.Omega.{arith}
 use lib.Dec.{ltb}
 use lib.ListN.{length, getD, List·getD-eq-default}
 use borrow.Author.Tests.{ltb-true, ltb-false, lt-ltb, eqb-true}
 use Rattle.limits.specs as limits
 use Rattle.lists.specs.{indexOf}
-use Rattle.lists.proofs.Index.{index-first, index-none, index-at, in-index, at-in}
+use Rattle.lists.proofs.Index.{index-first, index-at, in-index, at-in}
 use Rattle.lists.proofs.Places.{length-listOf, getD-listOf}
 use Rattle.store.specs.{liveCount, orderAt, members, permittedBy}
-use Rattle.chain.specs.{chainPlace, isLive, memberAt, headOf, tailOf, chosenBy, permits, allPermit}
+use Rattle.chain.specs.{chainPlace, isLive, memberAt, headOf, tailOf, permits, allPermit}
 use Rattle.lists.proofs.AllOf.{all-pass, all-fail, all-member}
 
 -- what holds of both ways of a test holds of its outcome
@@ -65,19 +64,6 @@ pub member-in : (s : List ℕ) (p : ℕ) → p < liveCount s → List·Memᴰ (m
 unfolding memberAt
 member-in s p h = at-in (members s) p 0 (omega (arith, count-members s))
 
--- a choice among none, and a choice among some
-pub chosen-none : (s : List ℕ) (k : ℕ) → liveCount s ≡ 0 → chosenBy s k ≡ 0
-unfolding chosenBy
-chosen-none s k e = member-past s (k % liveCount s) (omega arith)
-
-pub chosen-at : (s : List ℕ) (k : ℕ) → 0 < liveCount s → chosenBy s k ≡ orderAt s (k % liveCount s)
-unfolding chosenBy
-chosen-at s k h = member-order s (k % liveCount s) (mod-lt k h)
-
-pub chosen-in : (s : List ℕ) (k : ℕ) → 0 < liveCount s → List·Memᴰ (chosenBy s k) (members s)
-unfolding chosenBy
-chosen-in s k h = member-in s (k % liveCount s) (mod-lt k h)
-
 -- ---- who is live
 
 -- a live replica has a place in the chain, and one that is gone has none
@@ -98,7 +84,7 @@ pub place-at : (s : List ℕ) (r : ℕ) → isLive s r ≡ true → memberAt s (
 unfolding memberAt chainPlace
 place-at s r e = index-at (members s) r (omega (arith, place-below s r e, count-members s))
 
--- the first that has the number is at its place
+-- the first that has the table is at its place
 pub place-found : (s : List ℕ) (i r : ℕ) → i < liveCount s → ((k : ℕ) → k < i → memberAt s k ≡ r → ⊥) → memberAt s i ≡ r → chainPlace s r ≡ i
 unfolding chainPlace memberAt
 place-found s i r h before e = index-first (members s) i r (omega (arith, count-members s)) before e
@@ -142,19 +128,6 @@ unfolding allPermit permits
 all-permit-in s number r e m = eqb-true (permittedBy s r) number (all-member (permits s number) (members s) r e m)
 
 -- ---- as loops over the cells find it
-
--- the first place that holds the number is its place; none does
-pub place-first : (s : List ℕ) (i r : ℕ) → i < liveCount s → ((k : ℕ) → k < i → orderAt s k ≡ r → ⊥) → orderAt s i ≡ r → chainPlace s r ≡ i
-place-first s i r h before e =
-    place-found s i r h (λ k b q. before k b (sym (member-order s k (omega arith)) ∙ q)) (member-order s i h ∙ e)
-
-pub place-none : (s : List ℕ) (r : ℕ) → ((k : ℕ) → k < liveCount s → orderAt s k ≡ r → ⊥) → chainPlace s r ≡ liveCount s
-unfolding chainPlace
-place-none s r never =
-    index-none (members s) r (λ k b q.
-    let h : k < liveCount s = omega (arith, count-members s) in
-    never k h (sym (member-order s k h) ∙ member-is s k ∙ q)) ∙
-    sym (count-members s)
 
 -- every live replica permits the switch; one does not
 pub permit-all : (s : List ℕ) (number : ℕ) → ((k : ℕ) → k < liveCount s → permits s number (orderAt s k) ≡ true) → allPermit s number ≡ true

@@ -1,15 +1,20 @@
 // The chain's shape: which replicas are live, in which order, and which switch they permit.
 ghost use mathlib.Core.Path.{_≡_};
 ghost use Prim.Native.Nat.{_≤_, _<_};
-ghost use Rattle.store.specs.{liveCount, orderAt};
-ghost use Rattle.chain.specs.{chainPlace, isLive, memberAt, headOf, tailOf, chosenBy, permits, allPermit, permitting, removed, numbered, emptyStore};
+ghost use Rattle.store.specs.{liveCount, orderAt, numberAt};
+ghost use Rattle.chain.specs.{memberAt, headOf, tailOf, placeOf, numberIn, headNumber, tailNumber, chosenBy, permits, allPermit, permitting, removed, numbered, emptyStore};
 use limits::Number;
 use limits::REPLICAS;
 use limits::Replica;
+use limits::Table;
 use store::CELLS;
+use store::LAST_NUMBER;
 use store::LIVE;
 use store::ORDER;
 use store::PERMITS;
+
+// The last of the eight places of the order.
+const LAST_PLACE: usize = 7;
 
 fn wide(x: u32) -> usize
     ensures { λ r. ⌜ r ≡ x ⌝ }
@@ -28,15 +33,25 @@ pub fn count(cells: &[u32; CELLS]) -> usize
     n
 }
 
-// The replica at a place, live or not.
-fn at(cells: &[u32; CELLS], place: usize) -> Replica
+// The table of the replica at a place, live or not.
+fn at(cells: &[u32; CELLS], place: usize) -> Table
     requires { ⌜ place < 8 ⌝ }
     ensures { λ r. ⌜ r ≡ orderAt (now (cells .entry)) place ⌝ }
 {
-    (cells[ORDER + place] % 256) as Replica
+    (cells[ORDER + place] % 256) as Table
 }
 
-pub fn member(cells: &[u32; CELLS], place: usize) -> Replica
+// Its number.
+fn number_at(cells: &[u32; CELLS], place: usize) -> Replica
+    requires { ⌜ place < 8 ⌝ }
+    ensures { λ r. ⌜ r ≡ numberAt (now (cells .entry)) place ⌝ }
+{
+    (cells[ORDER + place] / 256 % 256) as Replica
+}
+
+// ---- by tables
+
+pub fn member(cells: &[u32; CELLS], place: usize) -> Table
     ensures { λ r. ⌜ r ≡ memberAt (now (cells .entry)) place ⌝ }
 {
     if count(cells) <= place {
@@ -45,13 +60,13 @@ pub fn member(cells: &[u32; CELLS], place: usize) -> Replica
     at(cells, place)
 }
 
-pub fn head(cells: &[u32; CELLS]) -> Replica
+pub fn head(cells: &[u32; CELLS]) -> Table
     ensures { λ r. ⌜ r ≡ headOf (now (cells .entry)) ⌝ }
 {
     member(cells, 0)
 }
 
-pub fn tail(cells: &[u32; CELLS]) -> Replica
+pub fn tail(cells: &[u32; CELLS]) -> Table
     ensures { λ r. ⌜ r ≡ tailOf (now (cells .entry)) ⌝ }
 {
     let n = count(cells);
@@ -59,6 +74,33 @@ pub fn tail(cells: &[u32; CELLS]) -> Replica
         return 0;
     }
     at(cells, n - 1)
+}
+
+// ---- by numbers
+
+pub fn number_in(cells: &[u32; CELLS], place: usize) -> Replica
+    ensures { λ r. ⌜ r ≡ numberIn (now (cells .entry)) place ⌝ }
+{
+    if count(cells) <= place {
+        return 0;
+    }
+    number_at(cells, place)
+}
+
+pub fn head_number(cells: &[u32; CELLS]) -> Replica
+    ensures { λ r. ⌜ r ≡ headNumber (now (cells .entry)) ⌝ }
+{
+    number_in(cells, 0)
+}
+
+pub fn tail_number(cells: &[u32; CELLS]) -> Replica
+    ensures { λ r. ⌜ r ≡ tailNumber (now (cells .entry)) ⌝ }
+{
+    let n = count(cells);
+    if n == 0 {
+        return 0;
+    }
+    number_at(cells, n - 1)
 }
 
 // The live replica that a choice names: at place (choice mod number of live replicas).
@@ -69,17 +111,17 @@ pub fn choose(cells: &[u32; CELLS], choice: u8) -> Replica
     if n == 0 {
         return 0;
     }
-    at(cells, (choice as usize) % n)
+    number_at(cells, (choice as usize) % n)
 }
 
-// The replica's place in the chain, or the number of live replicas where it is gone.
+// The place in the chain of the replica with this number, or the number of live replicas where it is gone.
 pub fn place(cells: &[u32; CELLS], r: Replica) -> usize
-    ensures { λ x. ⌜ x ≡ chainPlace (now (cells .entry)) r ⌝ }
+    ensures { λ x. ⌜ x ≡ placeOf (now (cells .entry)) r ⌝ }
 {
     let n = count(cells);
     let mut i: usize = 0;
     while i < n {
-        if at(cells, i) == r {
+        if number_at(cells, i) == r {
             return i;
         }
         i += 1;
@@ -87,13 +129,9 @@ pub fn place(cells: &[u32; CELLS], r: Replica) -> usize
     n
 }
 
-pub fn is_live(cells: &[u32; CELLS], r: Replica) -> bool
-    ensures { λ x. ⌜ x ≡ isLive (now (cells .entry)) r ⌝ }
-{
-    place(cells, r) < count(cells)
-}
+// ---- permits
 
-fn permits(cells: &[u32; CELLS], number: Number, r: Replica) -> bool
+fn permits(cells: &[u32; CELLS], number: Number, r: Table) -> bool
     ensures { λ x. ⌜ x ≡ permits (now (cells .entry)) number r ⌝ }
 {
     store::permitted(cells, r) == number as u32
@@ -114,39 +152,43 @@ pub fn all_permit(cells: &[u32; CELLS], number: Number) -> bool
     true
 }
 
-pub fn permit(cells: &mut [u32; CELLS], r: Replica, number: Number)
+pub fn permit(cells: &mut [u32; CELLS], r: Table, number: Number)
     ensures { λ _. ⌜ now (cells .exit) ≡ permitting (now (cells .entry)) r number ⌝ }
 {
     let i = PERMITS + store::row(r);
     cells[i] = number as u32;
 }
 
-// The replica is removed; unchanged where it is gone.
-pub fn remove(cells: &mut [u32; CELLS], r: Replica)
-    ensures { λ _. ⌜ now (cells .exit) ≡ removed (now (cells .entry)) r ⌝ }
+// ---- removal
+
+// The replica at this place is removed; unchanged where there is none.
+pub fn remove(cells: &mut [u32; CELLS], from: usize)
+    ensures { λ _. ⌜ now (cells .exit) ≡ removed (now (cells .entry)) from ⌝ }
 {
     let n = count(cells);
-    let from = place(cells, r);
     if n <= from {
         return;
     }
-    let last = n - 1;
+    let table = at(cells, from);
     let mut i = from;
-    while i < last {
+    while i < LAST_PLACE {
         let q = cells[ORDER + i + 1];
         cells[ORDER + i] = q;
         i += 1;
     }
-    cells[LIVE] = last as u32;
+    cells[ORDER + LAST_PLACE] = table as u32;
+    cells[LIVE] = (n - 1) as u32;
 }
 
-// The eight replicas are numbered, and permit switch number 1.
+// ---- the start
+
+// The eight replicas are numbered, each with the table of its number, and permit switch number 1.
 fn number(cells: &mut [u32; CELLS])
     ensures { λ _. ⌜ now (cells .exit) ≡ numbered (now (cells .entry)) 8 ⌝ }
 {
     let mut i: usize = 0;
     while i < REPLICAS {
-        cells[ORDER + i] = i as u32 + 1;
+        cells[ORDER + i] = 257 * (i as u32 + 1);
         cells[PERMITS + i] = 1;
         i += 1;
     }
@@ -159,4 +201,5 @@ pub fn clear(cells: &mut [u32; CELLS], n: u8)
     *cells = [0; CELLS];
     number(&mut *cells);
     cells[LIVE] = n as u32;
+    cells[LAST_NUMBER] = n as u32;
 }

@@ -10,13 +10,14 @@ use limits::Object;
 use limits::Operation;
 use limits::Replica;
 use limits::Stamp;
+use limits::Table;
 use protocol::Answer;
 use protocol::Decision;
 use protocol::Message;
 
 // ---- to a replica
 
-fn is_not_above(store: &[u32; store::CELLS], q: Replica, t: Stamp, x: Object) -> bool
+fn is_not_above(store: &[u32; store::CELLS], q: Table, t: Stamp, x: Object) -> bool
     ensures { λ r. ⌜ r ≡ isNotAbove (now (store .entry)) q t x ⌝ }
 {
     if stamp::above(store::read_stamp(store, q, x), t) {
@@ -26,7 +27,7 @@ fn is_not_above(store: &[u32; store::CELLS], q: Replica, t: Stamp, x: Object) ->
 }
 
 // Whether no object's stamp is above the one carried.
-fn none_above(store: &[u32; store::CELLS], q: Replica, t: Stamp, v: Context) -> bool
+fn none_above(store: &[u32; store::CELLS], q: Table, t: Stamp, v: Context) -> bool
     ensures { λ r. ⌜ r ≡ allOf (isNotAbove (now (store .entry)) q t) (numbersOf v) ⌝ }
 {
     let n = contexts::size(v);
@@ -40,7 +41,7 @@ fn none_above(store: &[u32; store::CELLS], q: Replica, t: Stamp, v: Context) -> 
     true
 }
 
-fn answers(store: &[u32; store::CELLS], q: Replica, number: Number, t: Stamp, v: Context) -> bool
+fn answers(store: &[u32; store::CELLS], q: Table, number: Number, t: Stamp, v: Context) -> bool
     ensures { λ r. ⌜ r ≡ answersContext (now (store .entry)) q number t v ⌝ }
 {
     if store::permitted(store, q) != number as u32 {
@@ -49,14 +50,14 @@ fn answers(store: &[u32; store::CELLS], q: Replica, number: Number, t: Stamp, v:
     none_above(store, q, t, v)
 }
 
-fn value(store: &[u32; store::CELLS], q: Replica, x: Object) -> u32
+fn value(store: &[u32; store::CELLS], q: Table, x: Object) -> u32
     ensures { λ r. ⌜ r ≡ valueAt (now (store .entry)) q x ⌝ }
 {
     store::read_value(store, q, x)
 }
 
 // The values of the objects, in the order given.
-fn values(store: &[u32; store::CELLS], q: Replica, v: Context) -> Context
+fn values(store: &[u32; store::CELLS], q: Table, v: Context) -> Context
     ensures { λ r. ⌜ r ≡ mapped (valueAt (now (store .entry)) q) v ⌝ }
 {
     let n = v.count;
@@ -78,7 +79,7 @@ fn answer(
     store: &[u32; store::CELLS],
     opens: &mut [u32; operations::CELLS],
     at: usize,
-    q: Replica,
+    q: Table,
     o: Operation,
     r: u32,
 ) -> Decision
@@ -103,17 +104,20 @@ pub fn direct_read(
     ensures { λ d. ⌜ (d ≡ directContext (now (store .entry)) (now (opens .entry)) at q number t o r .decision)
         × (now (opens .exit) ≡ directContext (now (store .entry)) (now (opens .entry)) at q number t o r .opens) ⌝ }
 {
-    if !chain::is_live(store, q) {
+    let n = chain::count(store);
+    let place = chain::place(store, q);
+    if n <= place {
         return context_rows::drop_row(&mut *opens, at, r);
     }
+    let table = chain::member(store, place);
     let v = contexts::load(opens, r);
     if !contexts::is_context(v) {
         return context_rows::drop_row(&mut *opens, at, r);
     }
-    if answers(store, q, number, t, v) {
-        return answer(store, &mut *opens, at, q, o, r);
+    if answers(store, table, number, t, v) {
+        return answer(store, &mut *opens, at, table, o, r);
     }
-    decisions::pass_on(at, Message::NormalContext(chain::tail(store), o, r))
+    decisions::pass_on(at, Message::NormalContext(chain::tail_number(store), o, r))
 }
 
 pub fn normal_read(
@@ -127,13 +131,18 @@ pub fn normal_read(
     ensures { λ d. ⌜ (d ≡ normalContext (now (store .entry)) (now (opens .entry)) at q o r .decision)
         × (now (opens .exit) ≡ normalContext (now (store .entry)) (now (opens .entry)) at q o r .opens) ⌝ }
 {
-    if !chain::is_live(store, q) {
+    let n = chain::count(store);
+    let place = chain::place(store, q);
+    if n <= place {
         return context_rows::drop_row(&mut *opens, at, r);
     }
     if !contexts::is_context(contexts::load(opens, r)) {
         return context_rows::drop_row(&mut *opens, at, r);
     }
-    answer(store, &mut *opens, at, q, o, r)
+    if place + 1 != n {
+        return decisions::pass_on(at, Message::NormalContext(chain::tail_number(store), o, r));
+    }
+    answer(store, &mut *opens, at, chain::member(store, place), o, r)
 }
 
 // ---- a reply

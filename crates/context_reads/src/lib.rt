@@ -57,7 +57,7 @@ pub fn switch_read(
         return context_rows::drop_row(&mut *opens, at, r);
     }
     if !goes_directly(switch, v) {
-        return decisions::pass_on(at, Message::NormalContext(chain::tail(store), o, r));
+        return decisions::pass_on(at, Message::NormalContext(chain::tail_number(store), o, r));
     }
     let to = chain::choose(store, choice);
     let number = cells::number(switch);

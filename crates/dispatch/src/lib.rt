@@ -45,6 +45,8 @@ fn decide_step(
         Step::Remove(r) => steps::remove(&mut *store, r),
         Step::GiveUp(o) => steps::give_up(&mut *opens, o as Operation),
         Step::BeginContext(x) => begins::begin_context(&mut *opens, held, x),
+        Step::Join => steps::join(&mut *store),
+        Step::Copy => steps::copy_on(&mut *store),
     }
 }
 
@@ -65,6 +67,8 @@ fn is_malformed(x: Step) -> bool
         Step::Remove(r) => false,
         Step::GiveUp(o) => false,
         Step::BeginContext(x) => !contexts::is_naming(x),
+        Step::Join => false,
+        Step::Copy => false,
     }
 }
 

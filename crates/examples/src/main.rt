@@ -6,10 +6,10 @@ ghost use lib.ListN.{length};
 use libc::STDOUT_FILENO;
 
 // Room for the lines of any input: `printed-short`, crates/runs/proofs/Whole.antt.
-fn output_room() -> [u8; 2359296]
-    ensures { λ r. ⌜ 2359296 ≡ length r ⌝ }
+fn output_room() -> [u8; 3014656]
+    ensures { λ r. ⌜ 3014656 ≡ length r ⌝ }
 {
-    [0; 2359296]
+    [0; 3014656]
 }
 
 fn say(name: &[u8]) {

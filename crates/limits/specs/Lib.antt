@@ -5,9 +5,20 @@ use Prim.Native.Nat.{ℕ}
 abbrev pub objects : ℕ
 objects = 1024
 
--- replicas are numbered 1 to at most 8
+-- at most 8 replicas are live, and a start numbers them from 1
 abbrev pub replicas : ℕ
 replicas = 8
+
+-- Req 04: 'the next number never used', up to 255
+abbrev pub lastReplica : ℕ
+lastReplica = 255
+
+-- Req 04: 'copies the next 64 objects', 'The sixteenth copy makes it the tail'
+abbrev pub copiedAtOnce : ℕ
+copiedAtOnce = 64
+
+abbrev pub copies : ℕ
+copies = 16
 
 -- at most 64 packets wait
 abbrev pub waiting : ℕ

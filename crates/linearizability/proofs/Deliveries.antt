@@ -30,12 +30,12 @@ use Rattle.contexts.proofs.Places.{numbers-mapped}
 use Rattle.contexts.proofs.Rows.{Apart, size-is, context-closing, context-apart, opens-holding, sized-holding, size-held, numbers-held, freed-apart, opens-freeing, sized-freeing}
 use Rattle.operations.proofs.Laws.{SizedOpens, sized-closing, last-closing, open-after-closing, once-closing}
 use Rattle.store.specs.declared.Write.{Write}
-use Rattle.store.specs.{members, appliedBy, permittedBy, valueAt, stampAt}
-use Rattle.chain.specs.{isLive, headOf, tailOf, chosenBy, allPermit}
+use Rattle.store.specs.{appliedBy, permittedBy, valueAt, stampAt}
+use Rattle.chain.specs.{isLive, headOf, tailOf, isMember, isTail, tableOf, headNumber, tailNumber, chosenBy, allPermit}
+use Rattle.joins.specs.{handingOn}
 use Rattle.replicas.specs.Replicas.{accepts, taking, answersDirect}
-use Rattle.chain.proofs.Members.{live-same, head-same, tail-same}
-use Rattle.replicas.proofs.Cells.{members-applying, members-logged}
-use Rattle.replicas.proofs.Moves.{accepts-live, answers-stamp, taking-is}
+use Rattle.chain.proofs.Numbers.{table-live, tail-table}
+use Rattle.replicas.proofs.Moves.{answers-stamp}
 use Rattle.waiting.specs.Waiting.{held, edited}
 use Rattle.waiting.proofs.Laws as waiting
 use Rattle.protocol.specs.Answers.{noFreshness}
@@ -52,20 +52,26 @@ use Rattle.protocol.specs.Steps.{Machine, machine, givenBy}
 use Rattle.protocol.proofs.Freshness.{new-from}
 use Rattle.log.proofs.Log.{values, stamps, top}
 use Rattle.log.proofs.Holds.{Small, small-append}
-use Rattle.log.proofs.Shows.{Shows, applied-between, read-value, read-stamp, read-tail, stamp-tail}
+use Rattle.log.proofs.Shows.{Shows, head-live, applied-between, read-value, read-stamp, read-tail, stamp-tail}
 use Rattle.log.proofs.Moves.{shows-taken-above, shows-taken, shows-taken-lone, taken-lone-all, visible-taken, visible-taken-lone}
+use Rattle.log.proofs.Places.{SamePlaces, places-same, places-trans, at-head-same}
+use Rattle.log.proofs.Tables.{at-head-first, at-head-sent, table-not-tail}
+use Rattle.log.proofs.Beside.{places-handing, shows-handing, entries-handing}
+use Rattle.log.proofs.Joined.{JoinInvariant}
+use Rattle.log.proofs.Taken.{places-taking, joined-taking, joined-taking-lone}
 use Rattle.linearizability.proofs.Packets.{AnsweredContext, rowNumbers, Fine, Asks, Names, unstampedOne, unstamped, unstamped-append, unstamped-lost, asks-none}
 use Rattle.linearizability.proofs.Core.{map-same, Core, core-add, core-rows, core-direct, core-normal, context-direct, context-normal, core-accept, core-commit, core-lose, core-leave, core-turn, core-stamp}
 use Rattle.linearizability.proofs.Order.{core-outcome, core-finishes, context-finishes}
 use Rattle.linearizability.proofs.Waits.{messages, front, back, Stands, stands-in, taken-out, taken-out-add, taken-out-add-two}
-use Rattle.linearizability.proofs.Invariant.{Placed, Books, Good, done, madeVisible, Then, order-stays, good-refused, posted-lost, posted-add}
+use Rattle.linearizability.proofs.Invariant.{Placed, Books, Good, done, madeVisible, Then, order-stays, good-refused, posted-lost, posted-add, placed-by}
 
 -- the invariant, from what the list then holds
 pub good-of : {k : Machine} {h : History} {es : List Entry} (issued log : List Write) (n : ℕ) (ms : List Message) → messages (k .waiting) ≡ ms
-    → Core h es issued log n ms (committedIn (k .switch)) (k .opens) → Shows (k .store) log n → ((p : Message) → p ∈ ms → Placed (k .store) p)
+    → Core h es issued log n ms (committedIn (k .switch)) (k .opens) → Shows (k .store) log n → JoinInvariant (k .store)
+    → ((p : Message) → p ∈ ms → Placed (k .store) p)
     → Books (k .opens) h → counterIn (k .switch) + unstamped ms ≤ lastGiven (k .opens) → SwitchInvariant (k .switch) → waiting.Exact (k .waiting) → Good k h es
-good-of issued log n ms e c s p b u z x =
-    record { issued = issued; log = log; n = n; core = rw e c; shown = s; posted = rw e p; books = b; counted = rw e u; switch-holds = z; exact = x }
+good-of issued log n ms e c s j p b u z x =
+    record { issued = issued; log = log; n = n; core = rw e c; shown = s; joined = j; posted = rw e p; books = b; counted = rw e u; switch-holds = z; exact = x }
 
 -- writes that were stamped are to objects that there are
 pub issued-small : {m : Machine} {h : History} {es : List Entry} (g : Good m h es) (w : Write) → w ∈ g .issued → w .object < 1024
@@ -73,21 +79,6 @@ issued-small g w i = g .books .ranged (w .operation) (writes (w .object) (w .val
 
 pub log-small : {m : Machine} {h : History} {es : List Entry} (g : Good m h es) → Small (g .log)
 log-small g w i = issued-small g w (g .core .visible .log-issued w i)
-
--- a message stays well placed while the chain's members stay
-pub placed-same : (s t : List ℕ) → members t ≡ members s → (q : Message) → Placed s q → Placed t q
-placed-same s t e (UnstampedWrite o x v) p = p
-placed-same s t e (SwitchRead o x) p = p
-placed-same s t e (StampedWrite r w) p = λ l. p (sym (live-same t s e r) ∙ l) ∙ sym (head-same t s e)
-placed-same s t e (DirectRead r number c o x) p = p
-placed-same s t e (NormalRead r o x c) p = λ l. p (sym (live-same t s e r) ∙ l) ∙ sym (tail-same t s e)
-placed-same s t e (Completion x c) p = p
-placed-same s t e (Reply o v c f) p = p
-placed-same s t e (ContextRead o r) p = p
-placed-same s t e (DirectContext q number c o r) p = p
-placed-same s t e (NormalContext q o r) p = λ l. p (sym (live-same t s e q) ∙ l) ∙ sym (tail-same t s e)
-placed-same s t e (ContextReply o r) p = p
-placed-same s t e Unknown p = p
 
 -- an operation other than the one that finishes stays unfinished
 pub unfinished-other : {h : History} {o p : ℕ} {vs : List ℕ} → (p ≡ o → ⊥) → Unfinished h p → Unfinished (finished o vs ∷ h) p
@@ -172,7 +163,7 @@ module _ {m : Machine} {h : History} {es : List Entry} (g : Good m h es) {at : �
   unfolding dropping rest
   good-switched w k c z =
       rw (order-stays m (done m (changingSwitch (givenBy m) (switched (dropping at) w))) es refl)
-      (good-of (g .issued) (g .log) (g .n) rest (taken-out (m .waiting) i) k (g .shown) others (g .books) (omega (arith, c, fewer)) z
+      (good-of (g .issued) (g .log) (g .n) rest (taken-out (m .waiting) i) k (g .shown) (g .joined) others (g .books) (omega (arith, c, fewer)) z
       (waiting.exact-edited (m .waiting) (takeOut at) (g .exact)))
 
   pub good-dropped : After (keeping (givenBy m) (dropping at))
@@ -185,7 +176,7 @@ module _ {m : Machine} {h : History} {es : List Entry} (g : Good m h es) {at : �
   unfolding passing rest
   good-passed w q issued k p u c z =
       rw (order-stays m (done m (changingSwitch (givenBy m) (switched (passing at q) w))) es refl)
-      (good-of issued (g .log) (g .n) (rest ++ q ∷ []) (taken-out-add (m .waiting) i q) k (g .shown)
+      (good-of issued (g .log) (g .n) (rest ++ q ∷ []) (taken-out-add (m .waiting) i q) k (g .shown) (g .joined)
       (posted-add {s = m .store} rest q others p) (g .books) (omega (arith, c, u, fewer, unstamped-append rest (q ∷ []))) z
       (waiting.exact-edited (m .waiting) _ (g .exact)))
 
@@ -210,7 +201,7 @@ module _ {m : Machine} {h : History} {es : List Entry} (g : Good m h es) {at : �
     good-left =
         rw (order-stays m (done m (changingOpens (givenBy m) (opened (dropping at) opens'))) es refl)
         (good-of (g .issued) (g .log) (g .n) rest (taken-out (m .waiting) i)
-        (core-leave (front at (m .waiting)) msg (back at (m .waiting)) whole r names same) (g .shown) others
+        (core-leave (front at (m .waiting)) msg (back at (m .waiting)) whole r names same) (g .shown) (g .joined) others
         (books-same open-same sized (g .books)) (omega (arith, fewer, same-last open-same)) (g .switch-holds) (waiting.exact-edited (m .waiting) (takeOut at) (g .exact)))
 
     -- another message that names the row comes of it
@@ -220,7 +211,7 @@ module _ {m : Machine} {h : History} {es : List Entry} (g : Good m h es) {at : �
     good-turned q f a only held p =
         rw (order-stays m (done m (changingOpens (givenBy m) (opened (passing at q) opens'))) es refl)
         (good-of (g .issued) (g .log) (g .n) (rest ++ q ∷ []) (taken-out-add (m .waiting) i q)
-        (core-turn (front at (m .waiting)) msg (back at (m .waiting)) whole r names same q f a only held) (g .shown)
+        (core-turn (front at (m .waiting)) msg (back at (m .waiting)) whole r names same q f a only held) (g .shown) (g .joined)
         (posted-add {s = m .store} rest q others p) (books-same open-same sized (g .books))
         (omega (arith, fewer, same-last open-same, unstamped-append rest (q ∷ []), asks-none q a)) (g .switch-holds)
         (waiting.exact-edited (m .waiting) _ (g .exact)))
@@ -249,17 +240,18 @@ module _ {m : Machine} {h : History} {es : List Entry} (g : Good m h es) {at : �
       (subst (AnsweredContext h es o) (sym (numbers-held l r v z ∙ numbers-mapped (valueAt (m .store) q) (contextAt l r))) f) (λ p a. a) (λ s e. sym e)
       (λ e. g .core .packets .used msg r (stands-in i) names (sym (size-is l r) ∙ sym (size-held l r v z) ∙ e)) tt
 
-  -- ---- the chain takes a write
+  -- ---- the chain takes a write; r is the table of the replica
 
   module _ (r : ℕ) (w : Write) (taken : accepts (m .store) r (w .stamp) ≡ true) (first : r ≡ headOf (m .store)) (known : w ∈ g .issued) where
     store : List ℕ
     store = taking (m .store) r w
 
-    same-members : members store ≡ members (m .store)
+    places : SamePlaces (m .store) store
     unfolding store
-    same-members =
-        let position = appliedBy (m .store) r in
-        ap members (taking-is (m .store) r w) ∙ members-applying _ r w ∙ members-logged (m .store) position w
+    places = places-taking (m .store) r w
+
+    live : isLive (m .store) r ≡ true
+    live = subst (λ (q : ℕ). isLive (m .store) q ≡ true) (sym first) (head-live (g .shown))
 
     accepted : Core h es (g .issued) (g .log ++ w ∷ []) (g .n) rest (committedIn (m .switch)) (m .opens)
     accepted = core-accept lost w known (shows-taken-above (g .shown) r w taken first)
@@ -273,24 +265,37 @@ module _ {m : Machine} {h : History} {es : List Entry} (g : Good m h es) {at : �
         let s : Shows store (g .log ++ w ∷ []) (g .n) = shows-taken (g .shown) r w taken first (g .core .visible .rising) small other in
         rw (order-stays m (done m (changingStore (givenBy m) (stored (dropping at) store))) es (s .tail-has ∙ sym (g .shown .tail-has)))
         (good-of (g .issued) (g .log ++ w ∷ []) (g .n) rest (taken-out (m .waiting) i) accepted s
-        (λ q j. placed-same (m .store) store same-members q (others q j)) (g .books) (omega (arith, fewer)) (g .switch-holds)
+        (joined-taking (m .store) r w (g .joined) live (g .shown .live) (issued-small g w known) other)
+        (λ q j. placed-by (m .store) store (at-head-same places (g .joined .places)) q (others q j)) (g .books) (omega (arith, fewer)) (g .switch-holds)
         (waiting.exact-edited (m .waiting) _ (g .exact)))
 
+    -- a lone replica hands the write on to a newcomer
+    handed : List ℕ
+    handed = handingOn (taking (m .store) r w) w
+
+    places-handed : SamePlaces (m .store) handed
+    unfolding handed
+    places-handed = places-trans (places-taking (m .store) r w) (places-handing (taking (m .store) r w) w)
+
     good-taken-lone : r ≡ tailOf (m .store) → overfull (held (m .waiting)) 1 2 ≡ false
-        → After (changingStore (givenBy m) (stored (deciding (answering at w)) (taking (m .store) r w)))
-    unfolding rest store
+        → After (changingStore (givenBy m) (stored (deciding (answering at w)) (handingOn (taking (m .store) r w) w)))
+    unfolding rest handed
     good-taken-lone lone roomy =
-        let s : Shows store (g .log ++ w ∷ []) (suc (g .n)) = shows-taken-lone (g .shown) r w taken first (g .core .visible .rising) small lone in
+        let t = taking (m .store) r w in
+        let one-more : Shows t (g .log ++ w ∷ []) (suc (g .n)) = shows-taken-lone (g .shown) r w taken first (g .core .visible .rising) small lone in
+        let s : Shows handed (g .log ++ w ∷ []) (suc (g .n)) =
+        shows-handing one-more (places-same (places-taking (m .store) r w) (g .joined .places)) w (issued-small g w known) in
         let long : suc (g .n) ≤ length (g .log ++ w ∷ []) = rw length-append (omega (arith, taken-lone-all (g .shown) r w taken first lone)) in
         let one : slice (g .n) (suc (g .n)) (g .log ++ w ∷ []) ≡ w ∷ [] = visible-taken-lone (g .shown) r w taken first lone in
         let sent : List Message = Reply (w .operation) (w .value) 0 noFreshness ∷ Completion (w .object) (w .stamp) ∷ [] in
         let c = core-outcome accepted {n' = suc (g .n)} (omega arith) long sent (inr (w, one, refl)) in
-        let shown : madeVisible m (done m (changingStore (givenBy m) (stored (deciding (answering at w)) store))) ≡ slice (g .n) (suc (g .n)) (g .log ++ w ∷ []) =
-        rw (s .tail-has, g .shown .tail-has) (visible-taken (g .shown) r w taken first (suc (g .n)) (omega arith) long) in
+        let shown : madeVisible m (done m (changingStore (givenBy m) (stored (deciding (answering at w)) handed))) ≡ slice (g .n) (suc (g .n)) (g .log ++ w ∷ []) =
+        rw (s .tail-has, g .shown .tail-has) (entries-handing t w _ _ ∙ visible-taken (g .shown) r w taken first (suc (g .n)) (omega arith) long) in
         rw shown
         (good-of (g .issued) (g .log ++ w ∷ []) (suc (g .n)) (rest ++ sent)
         (taken-out-add-two (m .waiting) i (Reply (w .operation) (w .value) 0 noFreshness) (Completion (w .object) (w .stamp)) roomy) c s
-        (λ q j. placed-same (m .store) store same-members q (elim (cases-append rest j) [ inl l ↦ others q l | inr l ↦ answer q l ])) (g .books)
+        (joined-taking-lone (m .store) r w (g .joined) live (g .shown .live) (issued-small g w known) (g .shown .sized) lone)
+        (λ q j. placed-by (m .store) handed (at-head-same places-handed (g .joined .places)) q (elim (cases-append rest j) [ inl l ↦ others q l | inr l ↦ answer q l ])) (g .books)
         (omega (arith, fewer, unstamped-append rest sent)) (g .switch-holds) (waiting.exact-edited (m .waiting) _ (g .exact)))
       where
         answer : (q : Message) → q ∈ Reply (w .operation) (w .value) 0 noFreshness ∷ Completion (w .object) (w .stamp) ∷ [] → Placed (m .store) q
@@ -306,7 +311,7 @@ module _ {m : Machine} {h : History} {es : List Entry} (g : Good m h es) {at : �
       (good-of (g .issued) (g .log) (g .n) rest (taken-out (m .waiting) i)
       (core-rows (core-finishes lost o v c f (subst (Fine h es (g .issued) (top 0 (take (g .n) (g .log))) (m .opens)) e fine) (g .books .opened o still .1))
       (λ q j r n. context-closing (m .opens) o r))
-      (g .shown) others (books-finish o still (g .books) (v ∷ [])) (omega (arith, fewer, last-closing (m .opens) o (g .books .cells) still)) (g .switch-holds)
+      (g .shown) (g .joined) others (books-finish o still (g .books) (v ∷ [])) (omega (arith, fewer, last-closing (m .opens) o (g .books .cells) still)) (g .switch-holds)
       (waiting.exact-edited (m .waiting) _ (g .exact))))
 
   good-context : (o r : ℕ) → msg ≡ ContextReply o r → isOpen (m .opens) o ≡ true
@@ -321,7 +326,7 @@ module _ {m : Machine} {h : History} {es : List Entry} (g : Good m h es) {at : �
       (good-of (g .issued) (g .log) (g .n) rest (taken-out (m .waiting) i)
       (context-finishes (core-leave (front at (m .waiting)) msg (back at (m .waiting)) whole r names agree) o (rowNumbers (m .opens) r)
       (subst (Fine h es (g .issued) (top 0 (take (g .n) (g .log))) (m .opens)) e fine) (g .books .opened o still .1))
-      (g .shown) others (books-same (opens-freeing l r) (sized-freeing l r (closed .cells)) closed)
+      (g .shown) (g .joined) others (books-same (opens-freeing l r) (sized-freeing l r (closed .cells)) closed)
       (omega (arith, fewer, last-closing (m .opens) o (g .books .cells) still, same-last (opens-freeing l r))) (g .switch-holds)
       (waiting.exact-edited (m .waiting) _ (g .exact)))
 
@@ -358,9 +363,9 @@ good-message {m} {h} {es} g {at} choice (UnstampedWrite o x v) i =
     (λ e. by-test (λ (d : Decision). After g choice i (changingSwitch (givenBy m) (switched d (marked (m .switch) x)))) (eqb (stampFor (m .switch) x) 0) _ _
     (λ none. good-switched g choice i (marked (m .switch) x) (rw (marked-committed (m .switch) x) (lost g choice i))
     (omega (arith, counter true none)) (invariant-marked (m .switch) x (g .switch-holds)))
-    (λ some. good-passed g choice i (marked (m .switch) x) (StampedWrite (headOf (m .store)) w) (g .issued ++ w ∷ [])
-    (rw (marked-committed (m .switch) x) (core-stamp (front at (m .waiting)) (back at (m .waiting)) w (headOf (m .store)) (whole g choice i)))
-    (λ l. refl) refl (omega (arith, counter false some)) (invariant-marked (m .switch) x (g .switch-holds))))
+    (λ some. good-passed g choice i (marked (m .switch) x) (StampedWrite (headNumber (m .store)) w) (g .issued ++ w ∷ [])
+    (rw (marked-committed (m .switch) x) (core-stamp (front at (m .waiting)) (back at (m .waiting)) w (headNumber (m .store)) (whole g choice i)))
+    (at-head-sent (m .store) (g .joined .places) (g .shown .live)) refl (omega (arith, counter false some)) (invariant-marked (m .switch) x (g .switch-holds))))
     (λ e. good-dropped g choice i)
   where
     w : Write
@@ -379,31 +384,37 @@ good-message {m} {h} {es} g {at} choice (SwitchRead o x) i =
     P : Decision → Type 0
     P d = After g choice i (keeping (givenBy m) d)
 
-    slow : After g choice i (keeping (givenBy m) (passing at (NormalRead (tailOf (m .store)) o x (lookedUp (m .switch) x))))
-    slow = good-sent g choice i (NormalRead (tailOf (m .store)) o x (lookedUp (m .switch) x)) (fine g choice i) (λ p q. q) (λ p q. q) (λ l. refl)
+    slow : After g choice i (keeping (givenBy m) (passing at (NormalRead (tailNumber (m .store)) o x (lookedUp (m .switch) x))))
+    slow = good-sent g choice i (NormalRead (tailNumber (m .store)) o x (lookedUp (m .switch) x)) (fine g choice i) (λ p q. q) (λ p q. q) tt
 good-message {m} {h} {es} g {at} choice (StampedWrite r w) i =
-    by-test P (accepts (m .store) r (w .stamp)) _ _
+    by-test P (isMember (m .store) r) _ _
+    (λ member. by-test P (accepts (m .store) (tableOf (m .store) r) (w .stamp)) _ _
     (λ taken.
-    let first = placed g choice i (accepts-live (m .store) r (w .stamp) taken) in
+    let table = tableOf (m .store) r in
+    let first = at-head-first (m .store) r (placed g choice i) member in
     let known = fine g choice i in
-    by-test P (eqb r (tailOf (m .store))) _ _
+    by-test P (isTail (m .store) r) _ _
     (λ e. by-test P (overfull (held (m .waiting)) 1 2) _ _
     (λ full. good-refused (Deliver at choice) WaitingFull g)
-    (λ roomy. good-taken-lone g choice i r w taken first known (eqb-true r (tailOf (m .store)) e) roomy))
-    (λ e. good-taken g choice i r w taken first known (eqb-false r (tailOf (m .store)) e)))
-    (λ e. good-dropped g choice i)
+    (λ roomy. good-taken-lone g choice i table w taken first known (tail-table (m .store) r e) roomy))
+    (λ e. good-taken g choice i table w taken first known (table-not-tail (m .store) r (g .shown .falls) member e)))
+    (λ e. good-dropped g choice i))
+    (λ gone. good-dropped g choice i)
   where
     P : Stored → Type 0
     P u = After g choice i (changingStore (givenBy m) u)
 good-message {m} {h} {es} g {at} choice (DirectRead r number t o x) i =
-    by-test P (isLive (m .store) r) _ _
-    (λ live. by-test P (answersDirect (m .store) r x number t) _ _
-    (λ yes'. good-answered g choice i (Reply o (valueAt (m .store) r x) 0 noFreshness) (answered live yes') tt refl)
-    (λ no'. good-sent g choice i (NormalRead (tailOf (m .store)) o x 0) (f .0) (λ p q. q) (λ p q. q) (λ l. refl)))
+    by-test P (isMember (m .store) r) _ _
+    (λ member. by-test P (answersDirect (m .store) table x number t) _ _
+    (λ yes'. good-answered g choice i (Reply o (valueAt (m .store) table x) 0 noFreshness) (answered (table-live (m .store) r member) yes') tt refl)
+    (λ no'. good-sent g choice i (NormalRead (tailNumber (m .store)) o x 0) (f .0) (λ p q. q) (λ p q. q) tt))
     (λ gone. good-dropped g choice i)
   where
     P : Decision → Type 0
     P d = After g choice i (keeping (givenBy m) d)
+
+    table : ℕ
+    table = tableOf (m .store) r
 
     f : (begun o (reads (x ∷ [])) ∈ h) × (t ≤ top 0 (take (g .n) (g .log)))
     f = fine g choice i
@@ -411,25 +422,33 @@ good-message {m} {h} {es} g {at} choice (DirectRead r number t o x) i =
     small : x < 1024
     small = g .books .ranged o (reads (x ∷ [])) (f .0) x (here refl)
 
-    answered : isLive (m .store) r ≡ true → answersDirect (m .store) r x number t ≡ true
-        → Core h es (g .issued) (g .log) (g .n) (rest g choice i ++ Reply o (valueAt (m .store) r x) 0 noFreshness ∷ []) (committedIn (m .switch)) (m .opens)
+    answered : isLive (m .store) table ≡ true → answersDirect (m .store) table x number t ≡ true
+        → Core h es (g .issued) (g .log) (g .n) (rest g choice i ++ Reply o (valueAt (m .store) table x) 0 noFreshness ∷ []) (committedIn (m .switch)) (m .opens)
     answered live e =
-        rw (read-value (g .shown) r x live small)
-        (core-direct (lost g choice i) o x (appliedBy (m .store) r) t (f .0) (f .1) (applied-between (g .shown) r live .0)
-        (rw (read-stamp (g .shown) r x live small) at (answers-stamp (m .store) r x number t e)))
+        rw (read-value (g .shown) table x live small)
+        (core-direct (lost g choice i) o x (appliedBy (m .store) table) t (f .0) (f .1) (applied-between (g .shown) table live .0)
+        (rw (read-stamp (g .shown) table x live small) at (answers-stamp (m .store) table x number t e)))
 good-message {m} {h} {es} g {at} choice (NormalRead r o x c) i =
-    by-test (λ (d : Decision). After g choice i (keeping (givenBy m) d)) (isLive (m .store) r) _ _
-    (λ live. good-answered g choice i (Reply o (valueAt (m .store) r x) c (freshness (stampAt (m .store) r x) c)) (answered (placed g choice i live)) tt refl)
-    (λ gone. good-dropped g choice i)
+    both P (isMember (m .store) r)
+    (by-test P (isTail (m .store) r) _ _
+    (λ e. good-answered g choice i (Reply o (valueAt (m .store) table x) c (freshness (stampAt (m .store) table x) c)) (answered (tail-table (m .store) r e)) tt refl)
+    (λ former. good-sent g choice i (NormalRead (tailNumber (m .store)) o x c) f (λ p q. q) (λ p q. q) tt))
+    (good-dropped g choice i)
   where
+    P : Decision → Type 0
+    P d = After g choice i (keeping (givenBy m) d)
+
+    table : ℕ
+    table = tableOf (m .store) r
+
     f : begun o (reads (x ∷ [])) ∈ h
     f = fine g choice i
 
     small : x < 1024
     small = g .books .ranged o (reads (x ∷ [])) f x (here refl)
 
-    answered : r ≡ tailOf (m .store)
-        → Core h es (g .issued) (g .log) (g .n) (rest g choice i ++ Reply o (valueAt (m .store) r x) c (freshness (stampAt (m .store) r x) c) ∷ []) (committedIn (m .switch)) (m .opens)
+    answered : table ≡ tailOf (m .store)
+        → Core h es (g .issued) (g .log) (g .n) (rest g choice i ++ Reply o (valueAt (m .store) table x) c (freshness (stampAt (m .store) table x) c) ∷ []) (committedIn (m .switch)) (m .opens)
     answered e =
         rw (e, read-tail (g .shown) x small, stamp-tail (g .shown) x small)
         (core-normal (lost g choice i) o x c (freshness (stamps (take (g .n) (g .log)) x) c) f (new-from (stamps (take (g .n) (g .log)) x) c))
@@ -447,22 +466,25 @@ good-message {m} {h} {es} g {at} choice (ContextRead o r) i =
     (both P (goesDirectly (m .switch) (contextAt (m .opens) r))
     (good-moved g choice i r refl (DirectContext (chosenBy (m .store) choice) (numberIn (m .switch)) (committedIn (m .switch)) o r)
     (fine g choice i, g .core .low) (λ p q. q) (λ s e. sym e) tt)
-    (good-moved g choice i r refl (NormalContext (tailOf (m .store)) o r) (fine g choice i) (λ p q. q) (λ s e. sym e) (λ l. refl)))
+    (good-moved g choice i r refl (NormalContext (tailNumber (m .store)) o r) (fine g choice i) (λ p q. q) (λ s e. sym e) tt))
     (good-freed g choice i r refl)
   where
     P : Opened → Type 0
     P u = After g choice i (changingOpens (givenBy m) u)
 good-message {m} {h} {es} g {at} choice (DirectContext q number t o r) i =
-    by-test P (isLive (m .store) q) _ _
-    (λ live. both P (isContext (contextAt (m .opens) r))
-    (by-test P (answersContext (m .store) q number t (contextAt (m .opens) r)) _ _
-    (λ yes'. good-values g choice i r refl q o (answered live yes'))
-    (λ no'. good-moved g choice i r refl (NormalContext (tailOf (m .store)) o r) (f .0) (λ p q. q) (λ s e. sym e) (λ l. refl)))
+    by-test P (isMember (m .store) q) _ _
+    (λ member. both P (isContext (contextAt (m .opens) r))
+    (by-test P (answersContext (m .store) table number t (contextAt (m .opens) r)) _ _
+    (λ yes'. good-values g choice i r refl table o (answered (table-live (m .store) q member) yes'))
+    (λ no'. good-moved g choice i r refl (NormalContext (tailNumber (m .store)) o r) (f .0) (λ p q. q) (λ s e. sym e) tt))
     (good-freed g choice i r refl))
     (λ gone. good-freed g choice i r refl)
   where
     P : Opened → Type 0
     P u = After g choice i (changingOpens (givenBy m) u)
+
+    table : ℕ
+    table = tableOf (m .store) q
 
     f : (begun o (reads (rowNumbers (m .opens) r)) ∈ h) × (t ≤ top 0 (take (g .n) (g .log)))
     f = fine g choice i
@@ -470,26 +492,33 @@ good-message {m} {h} {es} g {at} choice (DirectContext q number t o r) i =
     small : (x : ℕ) → x ∈ rowNumbers (m .opens) r → x < 1024
     small = g .books .ranged o (reads (rowNumbers (m .opens) r)) (f .0)
 
-    answered : isLive (m .store) q ≡ true → answersContext (m .store) q number t (contextAt (m .opens) r) ≡ true
-        → AnsweredContext h es o (map (valueAt (m .store) q) (rowNumbers (m .opens) r))
+    answered : isLive (m .store) table ≡ true → answersContext (m .store) table number t (contextAt (m .opens) r) ≡ true
+        → AnsweredContext h es o (map (valueAt (m .store) table) (rowNumbers (m .opens) r))
     answered live e =
-        rw (map-same (valueAt (m .store) q) (values (take (appliedBy (m .store) q) (g .log))) (rowNumbers (m .opens) r) (λ x j. read-value (g .shown) q x live (small x j)))
-        (context-direct (g .core) o (rowNumbers (m .opens) r) (appliedBy (m .store) q) t (f .0) (f .1) (applied-between (g .shown) q live .0)
-        (λ x j. rw (read-stamp (g .shown) q x live (small x j)) at (context-stamp (m .store) q number t (contextAt (m .opens) r) e x j)))
+        rw (map-same (valueAt (m .store) table) (values (take (appliedBy (m .store) table) (g .log))) (rowNumbers (m .opens) r) (λ x j. read-value (g .shown) table x live (small x j)))
+        (context-direct (g .core) o (rowNumbers (m .opens) r) (appliedBy (m .store) table) t (f .0) (f .1) (applied-between (g .shown) table live .0)
+        (λ x j. rw (read-stamp (g .shown) table x live (small x j)) at (context-stamp (m .store) table number t (contextAt (m .opens) r) e x j)))
 good-message {m} {h} {es} g {at} choice (NormalContext q o r) i =
-    by-test P (isLive (m .store) q) _ _
-    (λ live. both P (isContext (contextAt (m .opens) r)) (good-values g choice i r refl q o (answered (placed g choice i live))) (good-freed g choice i r refl))
-    (λ gone. good-freed g choice i r refl)
+    both P (isMember (m .store) q)
+    (both P (isContext (contextAt (m .opens) r))
+    (by-test P (isTail (m .store) q) _ _
+    (λ e. good-values g choice i r refl table o (answered (tail-table (m .store) q e)))
+    (λ former. good-moved g choice i r refl (NormalContext (tailNumber (m .store)) o r) f (λ p q. q) (λ s e. sym e) tt))
+    (good-freed g choice i r refl))
+    (good-freed g choice i r refl)
   where
     P : Opened → Type 0
     P u = After g choice i (changingOpens (givenBy m) u)
 
+    table : ℕ
+    table = tableOf (m .store) q
+
     f : begun o (reads (rowNumbers (m .opens) r)) ∈ h
     f = fine g choice i
 
-    answered : q ≡ tailOf (m .store) → AnsweredContext h es o (map (valueAt (m .store) q) (rowNumbers (m .opens) r))
+    answered : table ≡ tailOf (m .store) → AnsweredContext h es o (map (valueAt (m .store) table) (rowNumbers (m .opens) r))
     answered e =
-        rw (map-same (valueAt (m .store) q) (values (take (g .n) (g .log))) (rowNumbers (m .opens) r) (λ x j.
+        rw (map-same (valueAt (m .store) table) (values (take (g .n) (g .log))) (rowNumbers (m .opens) r) (λ x j.
         ap (λ (p : ℕ). valueAt (m .store) p x) e ∙ read-tail (g .shown) x (g .books .ranged o (reads (rowNumbers (m .opens) r)) f x j)))
         (context-normal (g .core) o (rowNumbers (m .opens) r) f)
 good-message {m} {h} {es} g {at} choice (ContextReply o r) i =

@@ -16,7 +16,8 @@ use Rattle.history.proofs.Claim.{numbers}
 use Rattle.contexts.specs.{numbersOf}
 use Rattle.store.specs.declared.Write.{Write}
 use Rattle.store.specs.{appliedBy, stampAt}
-use Rattle.chain.specs.{isLive, tailOf}
+use Rattle.chain.specs.{tailOf, isTail, tableOf}
+use Rattle.chain.proofs.Numbers.{tail-table}
 use Rattle.waiting.specs.declared.Packet.{Packet}
 use Rattle.waiting.specs.Waiting.{lookAt}
 use Rattle.protocol.specs.Answers.{oldRead, newRead}
@@ -139,21 +140,24 @@ module _ (n : ℕ) (low : 1 ≤ n) (high : n ≤ 8) (row : List Packet) (xs : Li
             record { write = w; ordered = ahead-first w read whole stays; from-carried = from; before = ahead-map (λ (f : Entry). f .operation) w read whole stays },
       )
 
-  -- a normal read that waits for a live replica, which its delivery answers (crates/protocol/specs/Delivery.antt, `normalRead`)
-  module _ (r o x c : ℕ) (waits : NormalRead r o x c ∈ messages (m .waiting)) (live : isLive (m .store) r ≡ true) where
+  -- a normal read that waits for the tail, which its delivery answers (crates/protocol/specs/Delivery.antt, `normalRead`)
+  module _ (r o x c : ℕ) (waits : NormalRead r o x c ∈ messages (m .waiting)) (tail : isTail (m .store) r ≡ true) where
+    abbrev table : ℕ
+    table = tableOf (m .store) r
+
     -- the object's stamp is the tail's
-    stamp-is : stampAt (m .store) r x ≡ stamps (take (good-run n low high row xs .n) (good-run n low high row xs .log)) x
+    stamp-is : stampAt (m .store) table x ≡ stamps (take (good-run n low high row xs .n) (good-run n low high row xs .log)) x
     stamp-is =
         let g = good-run n low high row xs in
         let begins = g .core .packets .fine (NormalRead r o x c) waits in
-        ap (λ (q : ℕ). stampAt (m .store) q x) (g .posted (NormalRead r o x c) waits live) ∙ stamp-tail (g .shown) x (g .books .ranged o (reads (x ∷ [])) begins x (here refl))
+        ap (λ (q : ℕ). stampAt (m .store) q x) (tail-table (m .store) r tail) ∙ stamp-tail (g .shown) x (g .books .ranged o (reads (x ∷ [])) begins x (here refl))
 
     -- `old`: WHEN THE REPLY IS MADE, THE ORDER HAS NO SUCH WRITE
-    pub old-before-write : freshness (stampAt (m .store) r x) c ≡ oldRead → Wrote x c es → ⊥
-    old-before-write e = visible-unwritten (good-run n low high row xs .core .visible) x c (rw stamp-is at (old-below (stampAt (m .store) r x) c e))
+    pub old-before-write : freshness (stampAt (m .store) table x) c ≡ oldRead → Wrote x c es → ⊥
+    old-before-write e = visible-unwritten (good-run n low high row xs .core .visible) x c (rw stamp-is at (old-below (stampAt (m .store) table x) c e))
 
     -- `new`: it has one
-    pub new-when-answered : freshness (stampAt (m .store) r x) c ≡ newRead → Wrote x c es
+    pub new-when-answered : freshness (stampAt (m .store) table x) c ≡ newRead → Wrote x c es
     new-when-answered e =
-        let s = new-from (stampAt (m .store) r x) c e in
+        let s = new-from (stampAt (m .store) table x) c e in
         visible-wrote (good-run n low high row xs .core .visible) x c (s .0) (rw stamp-is at (s .1))

@@ -17,7 +17,7 @@ use Rattle.operations.proofs.Laws.{SizedOpens, OpenOnce}
 use Rattle.contexts.specs.{numbersOf}
 use Rattle.store.specs.declared.Write.{Write}
 use Rattle.store.specs.{appliedBy}
-use Rattle.chain.specs.{isLive, headOf, tailOf}
+use Rattle.chain.specs.{tailOf}
 use Rattle.replicas.specs.Links.{entries}
 use Rattle.waiting.specs.Waiting.{edited}
 use Rattle.waiting.proofs.Laws as waiting
@@ -27,10 +27,12 @@ use Rattle.protocol.specs.declared.Message.{Message}
 use Rattle.protocol.specs.declared.Message.the-variants.{UnstampedWrite, SwitchRead, StampedWrite, DirectRead, NormalRead, Completion, Reply, ContextRead, DirectContext, NormalContext, ContextReply, Unknown}
 use Rattle.protocol.specs.declared.Refusal.{Refusal}
 use Rattle.protocol.specs.declared.Step.{Step}
-use Rattle.protocol.specs.declared.Step.the-variants.{Start, BeginRead, BeginWrite, Deliver, Lose, Repeat, Advance, Replace, Tell, Remove, GiveUp, BeginContext}
+use Rattle.protocol.specs.declared.Step.the-variants.{Start, BeginRead, BeginWrite, Deliver, Lose, Repeat, Advance, Replace, Tell, Remove, GiveUp, BeginContext, Join, Copy}
 use Rattle.protocol.specs.Decisions.{Outcome, keeping, refusing}
 use Rattle.protocol.specs.Steps.{Machine, machine, givenBy}
 use Rattle.log.proofs.Shows.{Shows}
+use Rattle.log.proofs.Places.{AtHead}
+use Rattle.log.proofs.Joined.{JoinInvariant}
 use Rattle.linearizability.specs.Run.{begunCount, noted}
 use Rattle.linearizability.proofs.Visible.{shows}
 use Rattle.linearizability.proofs.Packets.{unstamped}
@@ -39,18 +41,18 @@ use Rattle.linearizability.proofs.Bounds.{UpTo}
 use Rattle.linearizability.proofs.Order.{finishOrder}
 use Rattle.linearizability.proofs.Waits.{messages, edited-nothing}
 
--- whom a waiting message is for: a stamped write for the present head or for a replica that is gone, a normal read likewise for the tail
+-- whom a waiting message is for: a stamped write for the present head or for a replica that is gone
 abbrev pub Placed : List ℕ → Message → Type 0
 Placed s (UnstampedWrite o x v) = Unit {0}
 Placed s (SwitchRead o x) = Unit {0}
-Placed s (StampedWrite r w) = isLive s r ≡ true → r ≡ headOf s
+Placed s (StampedWrite r w) = AtHead s r
 Placed s (DirectRead r number t o x) = Unit {0}
-Placed s (NormalRead r o x c) = isLive s r ≡ true → r ≡ tailOf s
+Placed s (NormalRead r o x c) = Unit {0}
 Placed s (Completion x t) = Unit {0}
 Placed s (Reply o v c f) = Unit {0}
 Placed s (ContextRead o r) = Unit {0}
 Placed s (DirectContext q number t o r) = Unit {0}
-Placed s (NormalContext q o r) = isLive s q ≡ true → q ≡ tailOf s
+Placed s (NormalContext q o r) = Unit {0}
 Placed s (ContextReply o r) = Unit {0}
 Placed s Unknown = Unit {0}
 
@@ -84,6 +86,8 @@ pub record Good (m : Machine) (h : History) (es : List Entry) : Type 0 where
   pub n : ℕ
   pub core : Core h es issued log n (messages (m .waiting)) (committedIn (m .switch)) (m .opens)
   pub shown : Shows (m .store) log n
+  -- the places of the replicas, and what a newcomer has
+  pub joined : JoinInvariant (m .store)
   pub posted : (p : Message) → p ∈ messages (m .waiting) → Placed (m .store) p
   pub books : Books (m .opens) h
   -- each stamp that the switch gave and each unstamped write that waits has an operation of its own
@@ -141,6 +145,8 @@ noted-refused (Tell a) r h = refl
 noted-refused (Remove a) r h = refl
 noted-refused (GiveUp o) r h = refl
 noted-refused (BeginContext x) r h = refl
+noted-refused Join r h = refl
+noted-refused Copy r h = refl
 
 -- a refused step leaves the machine as it was
 pub refused-stays : (m : Machine) (r : Refusal) → done m (keeping (givenBy m) (refusing r)) ≡ m
@@ -154,6 +160,21 @@ good-refused x {m} {h} {es} r g =
     (subst (λ (k : Machine). Good k h es) (sym (refused-stays m r)) g)
 
 -- ---- parts of the invariant
+
+-- a message stays well placed while every write that waits for the head does
+pub placed-by : (s t : List ℕ) → ((r : ℕ) → AtHead s r → AtHead t r) → (q : Message) → Placed s q → Placed t q
+placed-by s t f (UnstampedWrite o x v) p = p
+placed-by s t f (SwitchRead o x) p = p
+placed-by s t f (StampedWrite r w) p = f r p
+placed-by s t f (DirectRead r number c o x) p = p
+placed-by s t f (NormalRead r o x c) p = p
+placed-by s t f (Completion x c) p = p
+placed-by s t f (Reply o v c d) p = p
+placed-by s t f (ContextRead o r) p = p
+placed-by s t f (DirectContext q number c o r) p = p
+placed-by s t f (NormalContext q o r) p = p
+placed-by s t f (ContextReply o r) p = p
+placed-by s t f Unknown p = p
 
 -- the messages of a list that lost one, and of one that gained one
 pub posted-lost : {s : List ℕ} (a : List Message) (p : Message) (b : List Message) → ((q : Message) → q ∈ a ++ p ∷ b → Placed s q) → (q : Message) → q ∈ a ++ b → Placed s q

@@ -9,7 +9,6 @@ pub mod Bounds
 pub mod Waits
 pub mod Invariant
 pub mod Deliveries
-pub mod Removal
 pub mod Steps
 pub mod OneOrder
 pub mod Listing
@@ -18,3 +17,4 @@ pub mod Opens
 pub mod Runs
 pub mod Rows
 pub mod Freshness
+pub mod NewTail

@@ -17,6 +17,7 @@ use Rattle.waiting.proofs.Laws.{waits-none, exact-none}
 use Rattle.protocol.specs.declared.Step.{Step}
 use Rattle.protocol.specs.Steps.{Machine, answerTo, after, started}
 use Rattle.log.proofs.Shows.{shows-start}
+use Rattle.log.proofs.Joined.{joined-start}
 use Rattle.linearizability.specs.Run.{noted, historyFrom, historyOf}
 use Rattle.linearizability.proofs.Core.{core-start}
 use Rattle.linearizability.proofs.Waits.{messages}
@@ -40,7 +41,7 @@ no-messages row = rw (waits-none row)
 pub good-start : (n : ℕ) → 1 ≤ n → n ≤ 8 → (row : List Packet) → Good (started n row) [] []
 unfolding started
 good-start n low high row =
-    good-of [] [] 0 [] (no-messages row) (rw (new-committed 1) core-start) (shows-start n low high) (λ p m. absurd (no-member m))
+    good-of [] [] 0 [] (no-messages row) (rw (new-committed 1) core-start) (shows-start n low high) (joined-start n high) (λ p m. absurd (no-member m))
     (record {
       cells = sized-none;
       open-once = once-none;

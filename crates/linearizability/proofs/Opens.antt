@@ -26,7 +26,7 @@ use Rattle.contexts.proofs.Rows.{opens-holding, opens-freeing}
 use Rattle.operations.proofs.Laws.{count-none, none-open, count-opening, opened-now, still-open, open-before, room-below, full-count, count-closing, others-stay-open, open-after-closing}
 use Rattle.switch.specs.Numbers.{numberIn, directIn}
 use Rattle.switch.specs.DirtySet.{lookedUp, stampFor, marked}
-use Rattle.chain.specs.{isLive, tailOf, allPermit}
+use Rattle.chain.specs.{isMember, isTail, tableOf, allPermit}
 use Rattle.replicas.specs.Replicas.{accepts, answersDirect}
 use Rattle.waiting.specs.declared.Packet.{Packet}
 use Rattle.waiting.specs.Waiting.{lookAt, noneWait}
@@ -38,7 +38,7 @@ use Rattle.protocol.specs.declared.Message.the-variants.{UnstampedWrite, Switch
 use Rattle.protocol.specs.declared.Refusal.{Refusal}
 use Rattle.protocol.specs.declared.Refusal.the-variants.{Format, ObjectNumber, OperationsUsedUp, OpenFull, WaitingFull, BufferTooShort, SameObject}
 use Rattle.protocol.specs.declared.Step.{Step}
-use Rattle.protocol.specs.declared.Step.the-variants.{Start, BeginRead, BeginWrite, Deliver, Lose, Repeat, Advance, Replace, Tell, Remove, GiveUp, BeginContext}
+use Rattle.protocol.specs.declared.Step.the-variants.{Start, BeginRead, BeginWrite, Deliver, Lose, Repeat, Advance, Replace, Tell, Remove, GiveUp, BeginContext, Join, Copy}
 use Rattle.protocol.specs.Messages.{messageOf, isUnstamped, isOfContext}
 use Rattle.protocol.specs.Decisions.{Given, Outcome, Switched, Stored, Opened, switched, opened, keeping, changingSwitch, changingStore, changingOpens, refusing, dropping, passing, overfull}
 use Rattle.protocol.specs.Contexts.{released, leaving, droppingRow, goesDirectly, contextRead, answersContext, answeringContext, directContext, normalContext, contextReply}
@@ -93,6 +93,8 @@ module _ (g : Given) (h : History) (l : List ℕ) where
   change-refused (Remove a) r = stays same-self refl refl
   change-refused (GiveUp o) r = stays same-self refl refl
   change-refused (BeginContext x) r = stays same-self refl refl
+  change-refused Join r = stays same-self refl refl
+  change-refused Copy r = stays same-self refl refl
 
   change-begin : (step : Step) (k : Kind) → noted step Done h ≡ begun (suc (begunCount h)) k ∷ h → openNoted step Done h l ≡ suc (begunCount h) ∷ l
       → (isWrite : Bool) (x v : ℕ) → Opens step (beginOperation (g .opens) (g .held) isWrite x v)
@@ -133,13 +135,16 @@ module _ (g : Given) (h : History) (l : List ℕ) where
       both P (directIn (g .switch)) (both P (eqb (lookedUp (g .switch) x) 0) (stays same-self refl refl) (stays same-self refl refl)) (stays same-self refl refl)
   change-message at choice (StampedWrite r w) =
       let P : Stored → Type 0 = Stores (Deliver at choice) in
-      both P (accepts (g .store) r (w .stamp))
-      (both P (eqb r (tailOf (g .store))) (both P (overfull (g .held) 1 2) (stays same-self refl refl) (stays same-self refl refl)) (stays same-self refl refl))
-      (stays same-self refl refl)
+      both P (isMember (g .store) r)
+      (both P (accepts (g .store) (tableOf (g .store) r) (w .stamp))
+      (both P (isTail (g .store) r) (both P (overfull (g .held) 1 2) (stays same-self refl refl) (stays same-self refl refl)) (stays same-self refl refl))
+      (stays same-self refl refl)) (stays same-self refl refl)
   change-message at choice (DirectRead r number t p x) =
       let P : Decision → Type 0 = Decides (Deliver at choice) in
-      both P (isLive (g .store) r) (both P (answersDirect (g .store) r x number t) (stays same-self refl refl) (stays same-self refl refl)) (stays same-self refl refl)
-  change-message at choice (NormalRead r p x c) = both (Decides (Deliver at choice)) (isLive (g .store) r) (stays same-self refl refl) (stays same-self refl refl)
+      both P (isMember (g .store) r) (both P (answersDirect (g .store) (tableOf (g .store) r) x number t) (stays same-self refl refl) (stays same-self refl refl)) (stays same-self refl refl)
+  change-message at choice (NormalRead r p x c) =
+      let P : Decision → Type 0 = Decides (Deliver at choice) in
+      both P (isMember (g .store) r) (both P (isTail (g .store) r) (stays same-self refl refl) (stays same-self refl refl)) (stays same-self refl refl)
   change-message at choice (Completion x t) = stays same-self refl refl
   change-message at choice (Reply p v c f) =
       by-test (Opens (Deliver at choice)) (isOpen (g .opens) p) _ _ (λ still. finishes p (v ∷ []) still same-self refl refl) (λ closed. stays same-self refl refl)
@@ -149,14 +154,15 @@ module _ (g : Given) (h : History) (l : List ℕ) where
       (both P (goesDirectly (g .switch) (contextAt (g .opens) r)) (stays same-self refl refl) (stays same-self refl refl)) (stays (opens-freeing (g .opens) r) refl refl)
   change-message at choice (DirectContext q number t o r) =
       let P : Opened → Type 0 = Opens (Deliver at choice) in
-      both P (isLive (g .store) q)
+      both P (isMember (g .store) q)
       (both P (isContext (contextAt (g .opens) r))
-      (both P (answersContext (g .store) q number t (contextAt (g .opens) r)) (stays (opens-holding (g .opens) r _) refl refl) (stays same-self refl refl))
+      (both P (answersContext (g .store) (tableOf (g .store) q) number t (contextAt (g .opens) r)) (stays (opens-holding (g .opens) r _) refl refl) (stays same-self refl refl))
       (stays (opens-freeing (g .opens) r) refl refl)) (stays (opens-freeing (g .opens) r) refl refl)
   change-message at choice (NormalContext q o r) =
       let P : Opened → Type 0 = Opens (Deliver at choice) in
-      both P (isLive (g .store) q)
-      (both P (isContext (contextAt (g .opens) r)) (stays (opens-holding (g .opens) r _) refl refl) (stays (opens-freeing (g .opens) r) refl refl))
+      both P (isMember (g .store) q)
+      (both P (isContext (contextAt (g .opens) r))
+      (both P (isTail (g .store) q) (stays (opens-holding (g .opens) r _) refl refl) (stays same-self refl refl)) (stays (opens-freeing (g .opens) r) refl refl))
       (stays (opens-freeing (g .opens) r) refl refl)
   change-message at choice (ContextReply o r) =
       let P : Opened → Type 0 = Opens (Deliver at choice) in
@@ -196,6 +202,8 @@ module _ (g : Given) (h : History) (l : List ℕ) where
   change-decided p (GiveUp o) =
       by-test (Opens (GiveUp o)) (isOpen (g .opens) o) _ _ (λ still. gives-up o still same-self refl refl) (λ closed. stays same-self refl refl)
   change-decided p (BeginContext x) = change-context x
+  change-decided p Join = stays same-self refl refl
+  change-decided p Copy = stays same-self refl refl
 
   change-in : (places : ℕ) (p : Packet) (x : Step) → Changes x (decidedIn places g p x)
   unfolding decidedIn

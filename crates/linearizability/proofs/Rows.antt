@@ -22,8 +22,9 @@ use Rattle.contexts.specs.declared.Objects.{Objects}
 use Rattle.contexts.specs.{contextOf, mapped, areObjects, areDifferent, isCount, isContext, sizeAt, contextAt, freeRow, holding, freeing}
 use Rattle.contexts.proofs.Rows.{Apart, size-is, context-opening, context-closing, context-apart, freed-apart, freed-size, size-none, free-none-left}
 use Rattle.store.specs.{liveCount, valueAt}
-use Rattle.chain.specs.{isLive, tailOf, chosenBy, allPermit}
-use Rattle.replicas.specs.Replicas.{accepts, pending, answersDirect}
+use Rattle.chain.specs.{placeOf, isMember, isTail, tableOf, tailNumber, chosenBy, allPermit}
+use Rattle.joins.specs.{isJoining, isFull}
+use Rattle.replicas.specs.Replicas.{accepts, pendingAt, answersDirect}
 use Rattle.switch.specs.Numbers.{numberIn, committedIn, directIn}
 use Rattle.switch.specs.DirtySet.{lookedUp, marked, stampFor}
 use Rattle.waiting.specs.declared.Packet.{Packet}
@@ -37,12 +38,12 @@ use Rattle.protocol.specs.declared.Refusal.the-variants.{ObjectNumber, Operatio
 use Rattle.protocol.specs.declared.Message.{Message}
 use Rattle.protocol.specs.declared.Message.the-variants.{UnstampedWrite, SwitchRead, StampedWrite, DirectRead, NormalRead, Completion, Reply, ContextRead, DirectContext, NormalContext, ContextReply, Unknown}
 use Rattle.protocol.specs.declared.Step.{Step}
-use Rattle.protocol.specs.declared.Step.the-variants.{Start, BeginRead, BeginWrite, Deliver, Lose, Repeat, Advance, Replace, Tell, Remove, GiveUp, BeginContext}
+use Rattle.protocol.specs.declared.Step.the-variants.{Start, BeginRead, BeginWrite, Deliver, Lose, Repeat, Advance, Replace, Tell, Remove, GiveUp, BeginContext, Join, Copy}
 use Rattle.protocol.specs.Messages.{packetOf, messageOf, isUnstamped, isOfContext, inRow}
 use Rattle.protocol.specs.Decisions.{Given, Outcome, Switched, Stored, Opened, switched, opened, keeping, changingSwitch, changingStore, changingOpens, noEdit, takeOut, takeOutAdd, addOne, deciding, refusing, dropping, passing, overfull}
 use Rattle.protocol.specs.Contexts.{released, leaving, droppingRow, goesDirectly, contextRead, answersContext, answeringContext, directContext, normalContext, contextReply}
 use Rattle.protocol.specs.Delivery.{stamping, unstampedWrite, switchRead, stampedWrite, directRead, normalRead, completion, reply, deliveredMessage}
-use Rattle.protocol.specs.Steps.{Machine, givenBy, positionOf, isMalformed, asking, beginOperation, beginContext, delivered, lost, copied, repeated, advancing, replacing, telling, removing, givingUp, decided, decidedIn, after, started}
+use Rattle.protocol.specs.Steps.{Machine, givenBy, positionOf, isMalformed, asking, beginOperation, beginContext, delivered, lost, copied, repeated, advancing, replacing, telling, removing, joining, copyingOn, givingUp, decided, decidedIn, after, started}
 use Rattle.linearizability.proofs.Packets.{Names}
 use Rattle.linearizability.proofs.Waits.{messages, message-packet, front, back, at-position, length-messages, room, taking, keeping as staying}
 use Rattle.linearizability.proofs.Copies.{packet-family, family-names, family-only}
@@ -141,27 +142,31 @@ module _ (g : Given) (z : SizedOpens (g .opens)) (at : ℕ) (inside : at < g .he
       both P (isContext (contextAt (g .opens) r))
       (both P (goesDirectly (g .switch) (contextAt (g .opens) r))
       (rows-turned q r refl (λ s e. sym e) (DirectContext (chosenBy (g .store) choice) (numberIn (g .switch)) (committedIn (g .switch)) o r) refl (g .opens) (λ s n. refl))
-      (rows-turned q r refl (λ s e. sym e) (NormalContext (tailOf (g .store)) o r) refl (g .opens) (λ s n. refl)))
+      (rows-turned q r refl (λ s e. sym e) (NormalContext (tailNumber (g .store)) o r) refl (g .opens) (λ s n. refl)))
       (rows-dropped q r refl (λ s e. sym e) (g .opens) z (λ s. refl) (dropping at))
   rows-message choice (DirectContext a number t o r) =
       let q : Message = DirectContext a number t o r in
       let P : Opened → Type 0 = λ u. Rows g q (changingOpens g u) in
       let gone = rows-dropped q r refl (λ s e. sym e) (g .opens) z (λ s. refl) (dropping at) in
-      both P (isLive (g .store) a)
+      let table = tableOf (g .store) a in
+      both P (isMember (g .store) a)
       (both P (isContext (contextAt (g .opens) r))
-      (both P (answersContext (g .store) a number t (contextAt (g .opens) r))
-      (rows-turned q r refl (λ s e. sym e) (ContextReply o r) refl (holding (g .opens) r (mapped (valueAt (g .store) a) (contextAt (g .opens) r)))
-      (context-apart (g .opens) r (mapped (valueAt (g .store) a) (contextAt (g .opens) r))))
-      (rows-turned q r refl (λ s e. sym e) (NormalContext (tailOf (g .store)) o r) refl (g .opens) (λ s n. refl)))
+      (both P (answersContext (g .store) table number t (contextAt (g .opens) r))
+      (rows-turned q r refl (λ s e. sym e) (ContextReply o r) refl (holding (g .opens) r (mapped (valueAt (g .store) table) (contextAt (g .opens) r)))
+      (context-apart (g .opens) r (mapped (valueAt (g .store) table) (contextAt (g .opens) r))))
+      (rows-turned q r refl (λ s e. sym e) (NormalContext (tailNumber (g .store)) o r) refl (g .opens) (λ s n. refl)))
       gone) gone
   rows-message choice (NormalContext a o r) =
       let q : Message = NormalContext a o r in
       let P : Opened → Type 0 = λ u. Rows g q (changingOpens g u) in
       let gone = rows-dropped q r refl (λ s e. sym e) (g .opens) z (λ s. refl) (dropping at) in
-      both P (isLive (g .store) a)
+      let table = tableOf (g .store) a in
+      both P (isMember (g .store) a)
       (both P (isContext (contextAt (g .opens) r))
-      (rows-turned q r refl (λ s e. sym e) (ContextReply o r) refl (holding (g .opens) r (mapped (valueAt (g .store) a) (contextAt (g .opens) r)))
-      (context-apart (g .opens) r (mapped (valueAt (g .store) a) (contextAt (g .opens) r))))
+      (both P (isTail (g .store) a)
+      (rows-turned q r refl (λ s e. sym e) (ContextReply o r) refl (holding (g .opens) r (mapped (valueAt (g .store) table) (contextAt (g .opens) r)))
+      (context-apart (g .opens) r (mapped (valueAt (g .store) table) (contextAt (g .opens) r))))
+      (rows-turned q r refl (λ s e. sym e) (NormalContext (tailNumber (g .store)) o r) refl (g .opens) (λ s n. refl)))
       gone) gone
   rows-message choice (ContextReply o r) =
       let q : Message = ContextReply o r in
@@ -179,7 +184,7 @@ advance-takes : (s : List ℕ) (held r : ℕ) → advancing s held r .decision .
 unfolding advancing refusing
 advance-takes s held r =
     let P : Stored → Type 0 = λ u. u .decision .edit .take ≡ false in
-    both P (isLive s r) (both P (eqb (pending s r) 0) refl (both P (eqb r (tailOf s)) (both P (overfull held 0 2) refl refl) refl)) refl
+    both P (isMember s r) (both P (eqb (pendingAt s (placeOf s r) (tableOf s r)) 0) refl (both P (isTail s r) (both P (overfull held 0 2) refl refl) refl)) refl
 
 replace-takes : (w : List ℕ) (number : ℕ) → replacing w number .decision .edit .take ≡ false
 unfolding replacing refusing
@@ -187,11 +192,19 @@ replace-takes w number = both (λ (u : Switched). u .decision .edit .take ≡ fa
 
 tell-takes : (w s : List ℕ) (r : ℕ) → telling w s r .decision .edit .take ≡ false
 unfolding telling refusing
-tell-takes w s r = both (λ (u : Stored). u .decision .edit .take ≡ false) (isLive s r) refl refl
+tell-takes w s r = both (λ (u : Stored). u .decision .edit .take ≡ false) (isMember s r) refl refl
 
 remove-takes : (s : List ℕ) (r : ℕ) → removing s r .decision .edit .take ≡ false
 unfolding removing refusing
-remove-takes s r = let P : Stored → Type 0 = λ u. u .decision .edit .take ≡ false in both P (isLive s r) (both P (leb (liveCount s) 1) refl refl) refl
+remove-takes s r = let P : Stored → Type 0 = λ u. u .decision .edit .take ≡ false in both P (isMember s r) (both P (leb (liveCount s) 1) refl refl) refl
+
+join-takes : (s : List ℕ) → joining s .decision .edit .take ≡ false
+unfolding joining refusing
+join-takes s = let P : Stored → Type 0 = λ u. u .decision .edit .take ≡ false in both P (isFull s) refl (both P (isJoining s) refl refl)
+
+copy-takes : (s : List ℕ) → copyingOn s .decision .edit .take ≡ false
+unfolding copyingOn refusing
+copy-takes s = let P : Stored → Type 0 = λ u. u .decision .edit .take ≡ false in both P (isJoining s) (both P (leb limits.replicas (liveCount s)) refl refl) refl
 
 give-up-takes : (l : List ℕ) (o : ℕ) → givingUp l o .decision .edit .take ≡ false
 unfolding givingUp refusing
@@ -303,6 +316,8 @@ module _ (g : Given) (z : SizedOpens (g .opens)) (p : Packet) where
   rows-decided (Remove r) = stays (changingStore g (removing (g .store) r)) (remove-takes (g .store) r) (λ k. refl)
   rows-decided (GiveUp o) = stays (changingOpens g (givingUp (g .opens) o)) (give-up-takes (g .opens) o) (give-up-rows (g .opens) o)
   rows-decided (BeginContext x) = rows-context x
+  rows-decided Join = stays (changingStore g (joining (g .store))) (join-takes (g .store)) (λ k. refl)
+  rows-decided Copy = stays (changingStore g (copyingOn (g .store))) (copy-takes (g .store)) (λ k. refl)
 
 -- ---- what an edit leaves in the list
 
@@ -332,12 +347,15 @@ module _ (g : Given) (at : ℕ) (inside : at < g .held) where
       both P (directIn (g .switch)) (both P (eqb (lookedUp (g .switch) x) 0) (λ t. refl, omega arith, λ t. inside) (λ t. refl, omega arith, λ t. inside)) (λ t. refl, omega arith, λ t. inside)
   edits-message choice (StampedWrite r w) =
       let P : Stored → Type 0 = λ u. Fine g at (changingStore g u) in
-      both P (accepts (g .store) r (w .stamp))
-      (both P (eqb r (tailOf (g .store))) (both P (overfull (g .held) 1 2) (none g at) (λ t. refl, omega arith, λ t. inside)) out) out
+      both P (isMember (g .store) r)
+      (both P (accepts (g .store) (tableOf (g .store) r) (w .stamp))
+      (both P (isTail (g .store) r) (both P (overfull (g .held) 1 2) (none g at) (λ t. refl, omega arith, λ t. inside)) out) out) out
   edits-message choice (DirectRead r number t o x) =
       let P : Decision → Type 0 = λ d. Fine g at (keeping g d) in
-      both P (isLive (g .store) r) (both P (answersDirect (g .store) r x number t) (λ t. refl, omega arith, λ t. inside) (λ t. refl, omega arith, λ t. inside)) out
-  edits-message choice (NormalRead r o x t) = both (λ (d : Decision). Fine g at (keeping g d)) (isLive (g .store) r) (λ t. refl, omega arith, λ t. inside) out
+      both P (isMember (g .store) r) (both P (answersDirect (g .store) (tableOf (g .store) r) x number t) (λ t. refl, omega arith, λ t. inside) (λ t. refl, omega arith, λ t. inside)) out
+  edits-message choice (NormalRead r o x t) =
+      let P : Decision → Type 0 = λ d. Fine g at (keeping g d) in
+      both P (isMember (g .store) r) (both P (isTail (g .store) r) (λ t. refl, omega arith, λ t. inside) (λ t. refl, omega arith, λ t. inside)) out
   edits-message choice (Completion x t) = out
   edits-message choice (Reply o v t f) = both (λ (u : Opened). Fine g at (changingOpens g u)) (isOpen (g .opens) o) out out
   edits-message choice (ContextRead o r) =
@@ -345,12 +363,13 @@ module _ (g : Given) (at : ℕ) (inside : at < g .held) where
       both P (isContext (contextAt (g .opens) r)) (both P (goesDirectly (g .switch) (contextAt (g .opens) r)) (λ t. refl, omega arith, λ t. inside) (λ t. refl, omega arith, λ t. inside)) out
   edits-message choice (DirectContext q number t o r) =
       let P : Opened → Type 0 = λ u. Fine g at (changingOpens g u) in
-      both P (isLive (g .store) q)
+      both P (isMember (g .store) q)
       (both P (isContext (contextAt (g .opens) r))
-      (both P (answersContext (g .store) q number t (contextAt (g .opens) r)) (λ t. refl, omega arith, λ t. inside) (λ t. refl, omega arith, λ t. inside)) out) out
+      (both P (answersContext (g .store) (tableOf (g .store) q) number t (contextAt (g .opens) r)) (λ t. refl, omega arith, λ t. inside) (λ t. refl, omega arith, λ t. inside)) out) out
   edits-message choice (NormalContext q o r) =
       let P : Opened → Type 0 = λ u. Fine g at (changingOpens g u) in
-      both P (isLive (g .store) q) (both P (isContext (contextAt (g .opens) r)) (λ t. refl, omega arith, λ t. inside) out) out
+      both P (isMember (g .store) q)
+      (both P (isContext (contextAt (g .opens) r)) (both P (isTail (g .store) q) (λ t. refl, omega arith, λ t. inside) (λ t. refl, omega arith, λ t. inside)) out) out
   edits-message choice (ContextReply o r) =
       let P : Opened → Type 0 = λ u. Fine g at (changingOpens g u) in
       both P (isOpen (g .opens) o) (both P (isCount (contextAt (g .opens) r .count)) out out) out
@@ -366,7 +385,7 @@ edits-begin g isWrite x v =
 
 -- so for every step
 edits-decided : (g : Given) (p : Packet) (x : Step) → Edits (g .held) (positionOf x) (decided g p x .decision .edit)
-unfolding decided delivered leaving lost copied repeated beginOperation beginContext advancing replacing telling removing givingUp positionOf refusing dropping
+unfolding decided delivered leaving lost copied repeated beginOperation beginContext advancing replacing telling removing joining copyingOn givingUp positionOf refusing dropping
 edits-decided g p (Start n) = none g 0
 edits-decided g p (BeginRead x) = edits-begin g false x 0
 edits-decided g p (BeginWrite x v) = edits-begin g true x v
@@ -384,14 +403,14 @@ edits-decided g p (Repeat at) =
     (both P (isOfContext p) (both P (ltb (freeRow (g .opens)) limits.contexts) (λ t. not-taken t, omega arith, λ t. not-taken t) (none g at)) (λ t. not-taken t, omega arith, λ t. not-taken t))))
 edits-decided g p (Advance r) =
     let P : Stored → Type 0 = λ u. Fine g 0 (changingStore g u) in
-    both P (isLive (g .store) r)
-    (both P (eqb (pending (g .store) r) 0) (none g 0)
-    (both P (eqb r (tailOf (g .store))) (both P (overfull (g .held) 0 2) (none g 0) (λ t. not-taken t, omega arith, λ t. not-taken t)) (none g 0))) (none g 0)
+    both P (isMember (g .store) r)
+    (both P (eqb (pendingAt (g .store) (placeOf (g .store) r) (tableOf (g .store) r)) 0) (none g 0)
+    (both P (isTail (g .store) r) (both P (overfull (g .held) 0 2) (none g 0) (λ t. not-taken t, omega arith, λ t. not-taken t)) (none g 0))) (none g 0)
 edits-decided g p (Replace number) = both (λ (u : Switched). Fine g 0 (changingSwitch g u)) (leb number (numberIn (g .switch))) (none g 0) (none g 0)
-edits-decided g p (Tell r) = both (λ (u : Stored). Fine g 0 (changingStore g u)) (isLive (g .store) r) (none g 0) (none g 0)
+edits-decided g p (Tell r) = both (λ (u : Stored). Fine g 0 (changingStore g u)) (isMember (g .store) r) (none g 0) (none g 0)
 edits-decided g p (Remove r) =
     let P : Stored → Type 0 = λ u. Fine g 0 (changingStore g u) in
-    both P (isLive (g .store) r) (both P (leb (liveCount (g .store)) 1) (none g 0) (none g 0)) (none g 0)
+    both P (isMember (g .store) r) (both P (leb (liveCount (g .store)) 1) (none g 0) (none g 0)) (none g 0)
 edits-decided g p (GiveUp o) = both (λ (u : Opened). Fine g 0 (changingOpens g u)) (isOpen (g .opens) o) (none g 0) (none g 0)
 edits-decided g p (BeginContext x) =
     let P : Opened → Type 0 = λ u. Fine g 0 (changingOpens g u) in
@@ -401,6 +420,12 @@ edits-decided g p (BeginContext x) =
     (both P (roomToOpen (g .opens))
     (both P (overfull (g .held) 0 1) (none g 0) (both P (ltb (freeRow (g .opens)) limits.contexts) (λ t. not-taken t, omega arith, λ t. not-taken t) (none g 0)))
     (none g 0))) (none g 0)) (none g 0)
+edits-decided g p Join =
+    let P : Stored → Type 0 = λ u. Fine g 0 (changingStore g u) in
+    both P (isFull (g .store)) (none g 0) (both P (isJoining (g .store)) (none g 0) (none g 0))
+edits-decided g p Copy =
+    let P : Stored → Type 0 = λ u. Fine g 0 (changingStore g u) in
+    both P (isJoining (g .store)) (both P (leb limits.replicas (liveCount (g .store))) (none g 0) (none g 0)) (none g 0)
 
 added-one : (e : Edit) → e .add ≡ 1 → added e ≡ e .first ∷ []
 unfolding added

@@ -18,11 +18,9 @@ use Rattle.operations.specs.{isOpen, lastGiven, roomToOpen, opening, closing}
 use Rattle.operations.proofs.Behind.{SameOpens, same-open, same-last}
 use Rattle.operations.proofs.Laws.{last-opening, open-before, last-closing, open-after-closing}
 use Rattle.store.specs.declared.Write.{Write}
-use Rattle.chain.specs.{chainPlace}
-use Rattle.replicas.specs.Replicas.{accepts}
+use Rattle.chain.specs.{chainPlace, isMember, tableOf}
 use Rattle.replicas.specs.Links.{allLinks}
 use Rattle.replicas.proofs.Cells.{SizedStore}
-use Rattle.replicas.proofs.Moves.{accepts-live}
 use Rattle.replicas.proofs.Descending.{Descending}
 use Rattle.replicas.proofs.Links.{links-together}
 use Rattle.waiting.specs.declared.Packet.{Packet}
@@ -33,6 +31,7 @@ use Rattle.protocol.specs.declared.Step.the-variants.{GiveUp}
 use Rattle.protocol.specs.Decisions.{Outcome, Opened, changingOpens, refusing}
 use Rattle.protocol.specs.Steps.{Machine, givenBy, outcomeOf, givingUp, decided, isMalformed, decidedIn, answerTo, after, started}
 use Rattle.log.proofs.Shows.{head-place}
+use Rattle.log.proofs.Tables.{at-head-first}
 use Rattle.linearizability.specs.Run.{noted, historyFrom, historyOf}
 use Rattle.linearizability.proofs.Waits.{messages}
 use Rattle.linearizability.proofs.Invariant.{EndsOnce, Good}
@@ -53,12 +52,13 @@ module _ (n : ℕ) (low : 1 ≤ n) (high : n ≤ 8) (row : List Packet) (xs : Li
   pub run-sized : SizedStore (machineOf n row xs .store)
   run-sized = good-run n low high row xs .shown .sized
 
-  -- and of an accepted write: it is at the head
-  pub accepted-at-head : (r : ℕ) (w : Write) → StampedWrite r w ∈ messages (machineOf n row xs .waiting) → accepts (machineOf n row xs .store) r (w .stamp) ≡ true
-      → chainPlace (machineOf n row xs .store) r ≡ 0
-  accepted-at-head r w i a =
+  -- and of a write that a live replica takes: it is at the head
+  pub accepted-at-head : (r : ℕ) (w : Write) → StampedWrite r w ∈ messages (machineOf n row xs .waiting) → isMember (machineOf n row xs .store) r ≡ true
+      → chainPlace (machineOf n row xs .store) (tableOf (machineOf n row xs .store) r) ≡ 0
+  accepted-at-head r w i member =
       let g = good-run n low high row xs in
-      ap (chainPlace (machineOf n row xs .store)) (g .posted (StampedWrite r w) i (accepts-live (machineOf n row xs .store) r (w .stamp) a)) ∙ head-place (g .shown)
+      let s = machineOf n row xs .store in
+      ap (chainPlace s) (at-head-first s r (g .posted (StampedWrite r w) i) member) ∙ head-place (g .shown)
 
   -- 'All links together hold at most 64 writes', counted link by link
   pub links-within : allLinks (machineOf n row xs .store) ≤ 64

@@ -12,7 +12,7 @@ use lib.Seq.{slice, length-take-le}
 use borrow.Author.Tests.{eqb-true, eqb-false, le-leb, leb-false, le-ltb, ltb-true, ltb-false}
 use Rattle.limits.specs as limits
 use Rattle.history.specs.History.{_∈_, Kind, reads, writes, History, begun}
-use Rattle.history.proofs.Lists.{here, there, inserted, cases-cons, cases-append, only-member}
+use Rattle.history.proofs.Lists.{here, there, inserted, in-getD, cases-cons, cases-append, only-member}
 use Rattle.history.proofs.Tests.{by-test}
 use Rattle.history.proofs.Entries.{Entry, Unfinished}
 use Rattle.history.proofs.Growth.{older, begun-not-finished}
@@ -28,34 +28,42 @@ use Rattle.contexts.specs.{contextOf, numbersOf, areObjects, areDifferent, isNa
 use Rattle.contexts.proofs.Places.{naming-some, objects-small}
 use Rattle.contexts.proofs.Rows.{Apart, size-is, context-opening, context-closing, context-apart, opens-holding, sized-holding, size-held, numbers-held, free-apart}
 use Rattle.store.specs.declared.Write.{Write}
-use Rattle.store.specs.{members, liveCount}
-use Rattle.chain.specs.{isLive, tailOf, permitting, removed}
-use Rattle.replicas.specs.Replicas.{applying, pending, oldest}
-use Rattle.replicas.proofs.Cells.{members-applying, members-permitting}
+use Rattle.store.specs.{liveCount, appliedBy}
+use Rattle.chain.specs.{isLive, tailOf, placeOf, isMember, isTail, tableOf, permitting}
+use Rattle.joins.specs.{isJoining, lastNumber, isFull, beginning, copying, handingOn, without}
+use Rattle.replicas.specs.Replicas.{applying, pendingAt, pending, oldest}
+use Rattle.chain.proofs.Numbers.{table-live, tail-table}
 use Rattle.waiting.specs.declared.Packet.{Packet}
 use Rattle.waiting.specs.Waiting.{held, lookAt, edited}
 use Rattle.waiting.proofs.Laws as waiting
 use Rattle.protocol.specs.Answers.{noFreshness}
 use Rattle.protocol.specs.declared.Message.{Message}
 use Rattle.protocol.specs.declared.Message.the-variants.{SwitchRead, Completion, Reply, ContextRead}
-use Rattle.protocol.specs.declared.Refusal.the-variants.{Format, ObjectNumber, OperationsUsedUp, OpenFull, WaitingFull, NoPacket, UnstampedRepeat, NotLive, NoLinkedWrite, SwitchNumber, LastReplica, NotOpen, BufferTooShort, SameObject}
+use Rattle.protocol.specs.declared.Refusal.the-variants.{Format, ObjectNumber, OperationsUsedUp, OpenFull, WaitingFull, NoPacket, UnstampedRepeat, NotLive, NoLinkedWrite, SwitchNumber, LastReplica, NotOpen, BufferTooShort, SameObject, ChainFull, JoinUnderWay, NoJoin}
 use Rattle.protocol.specs.declared.Step.{Step}
-use Rattle.protocol.specs.declared.Step.the-variants.{Start, BeginRead, BeginWrite, Deliver, Lose, Repeat, Advance, Replace, Tell, Remove, GiveUp, BeginContext}
+use Rattle.protocol.specs.declared.Step.the-variants.{Start, BeginRead, BeginWrite, Deliver, Lose, Repeat, Advance, Replace, Tell, Remove, GiveUp, BeginContext, Join, Copy}
 use Rattle.protocol.specs.Messages.{packetOf, contextMessage, messageOf, isUnstamped, isOfContext, inRow}
 use Rattle.protocol.specs.Decisions.{Switched, Stored, Opened, switched, stored, opened, keeping, changingSwitch, changingStore, changingOpens, deciding, noEdit, addOne, dropping, overfull}
 use Rattle.protocol.specs.Contexts.{released, leaving, droppingRow}
-use Rattle.protocol.specs.Steps.{Machine, machine, givenBy, asking, beginOperation, beginContext, delivered, lost, copied, repeated, sending, advancing, replacing, telling, removing, givingUp, decided, isMalformed, decidedIn, positionOf, outcomeOf}
+use Rattle.protocol.specs.Steps.{Machine, machine, givenBy, asking, beginOperation, beginContext, delivered, lost, copied, repeated, sending, advancing, replacing, telling, removing, joining, copyingOn, givingUp, decided, isMalformed, decidedIn, positionOf, outcomeOf}
+use Rattle.log.proofs.Holds.{noWrite}
 use Rattle.log.proofs.Shows.{Shows, shows-permitting}
-use Rattle.log.proofs.Moves.{shows-advanced, shows-advanced-tail, oldest-tail-below, visible-advanced, visible-advanced-tail, shows-removed, visible-removed}
+use Rattle.log.proofs.Moves.{oldest-below, oldest-is, shows-advanced, shows-advanced-tail, oldest-tail-below, visible-advanced, visible-advanced-tail, shows-removed, visible-removed}
+use Rattle.log.proofs.Kept.{shows-kept}
+use Rattle.log.proofs.Places.{AtHead, SamePlaces, places-same, places-trans, places-applying, places-permitting, at-head-same}
+use Rattle.log.proofs.Tables.{table-pending, table-not-tail}
+use Rattle.log.proofs.Joins.{not-full, replicas-beginning, at-head-beginning}
+use Rattle.log.proofs.Beside.{places-handing, shows-handing, entries-handing}
+use Rattle.log.proofs.Joined.{JoinInvariant, joined-permitting, joined-applying, joined-handing, joined-beginning, shows-copying, joined-copying, at-head-copying}
+use Rattle.log.proofs.Without.{shows-ended, ended-live, ended-count, without-is, joined-without, at-head-without}
 use Rattle.linearizability.specs.Run.{begunCount, noted}
 use Rattle.linearizability.proofs.Packets.{Asks, Names, unstampedOne, unstamped-append, asks-none}
 use Rattle.linearizability.proofs.Core.{Core, core-begin, core-add, core-join, core-rows, core-cut, core-reset, core-ask}
 use Rattle.linearizability.proofs.Order.{core-outcome}
 use Rattle.linearizability.proofs.Waits.{messages, front, back, Stands, stands-in, at-position, edited-nothing, added-packet, added-one, added-two}
-use Rattle.linearizability.proofs.Invariant.{Placed, InRange, Books, Good, done, madeVisible, Then, order-stays, good-refused, posted-add, new-number, new-unfinished}
-use Rattle.linearizability.proofs.Removal.{placed-removed}
+use Rattle.linearizability.proofs.Invariant.{Placed, InRange, Books, Good, done, madeVisible, Then, order-stays, good-refused, posted-add, placed-by, new-number, new-unfinished}
 use Rattle.linearizability.proofs.Copies.{family-names, family-only, family-asks, family-placed, family-fine, packet-family}
-use Rattle.linearizability.proofs.Deliveries.{both, good-of, log-small, placed-same, books-closed, books-same, good-dropped, good-freed, good-message}
+use Rattle.linearizability.proofs.Deliveries.{both, good-of, log-small, books-closed, books-same, good-dropped, good-freed, good-message}
 
 -- ---- begin
 
@@ -150,7 +158,7 @@ module _ {m : Machine} {h : History} {es : List Entry} (g : Good m h es) (wide :
           rw (next-is g) (asked-core g isWrite x v) in
           rw (notes, order-stays m (machine (m .switch) (m .store) (opening (m .opens) next) (edited (m .waiting) (addOne (packetOf q)))) es refl)
           (good-of (g .issued) (g .log) (g .n) (messages (m .waiting) ++ q ∷ []) (added-one (m .waiting) wide (g .exact) q roomy)
-          (core-rows core (λ p i r n. context-opening (m .opens) next r)) (g .shown)
+          (core-rows core (λ p i r n. context-opening (m .opens) next r)) (g .shown) (g .joined)
           (posted-add {s = m .store} (messages (m .waiting)) q (g .posted) (asked-placed (m .store) isWrite next x v))
           (books-begin g (cond isWrite (writes x v) (reads (x ∷ []))) (in-range isWrite x v small) room left)
           (omega (arith, g .counted, unstamped-append (messages (m .waiting)) (q ∷ []), asked-one isWrite next x v, last-opening (m .opens) next (g .books .cells) room))
@@ -198,7 +206,7 @@ module _ {m : Machine} {h : History} {es : List Entry} (g : Good m h es) (wide :
   good-context-begins small left room roomy free =
       rw (order-stays m (machine (m .switch) (m .store) cells (edited (m .waiting) (addOne (packetOf (ContextRead number row))))) es refl)
       (good-of (g .issued) (g .log) (g .n) (messages (m .waiting) ++ ContextRead number row ∷ [])
-      (added-one (m .waiting) wide (g .exact) (ContextRead number row) roomy) (context-core free) (g .shown)
+      (added-one (m .waiting) wide (g .exact) (ContextRead number row) roomy) (context-core free) (g .shown) (g .joined)
       (posted-add {s = m .store} (messages (m .waiting)) (ContextRead number row) (g .posted) tt)
       (books-same (opens-holding (opening (m .opens) number) row (contextOf x)) (sized-holding (opening (m .opens) number) row (contextOf x) sized)
       (books-begin g (reads objects) (objects-small (contextOf x) small) room left))
@@ -313,7 +321,7 @@ module _ {m : Machine} {h : History} {es : List Entry} (g : Good m h es) (wide :
       (λ k n e. used (sym (size-is l was) ∙ sym (size-held l r v z) ∙ subst (λ (y : ℕ). sizeAt (holding l r v) y ≡ 0) (family-only family r k n) e)) in
       rw (order-stays m (machine (m .switch) (m .store) (holding l r v) (edited (m .waiting) (addOne (inRow packet r)))) es refl)
       (good-of (g .issued) (g .log) (g .n) (messages (m .waiting) ++ q r ∷ [])
-      (added-packet (m .waiting) wide (g .exact) (inRow packet r) roomy ∙ ap (λ (p : Message). messages (m .waiting) ++ p ∷ []) (holds r)) core (g .shown)
+      (added-packet (m .waiting) wide (g .exact) (inRow packet r) roomy ∙ ap (λ (p : Message). messages (m .waiting) ++ p ∷ []) (holds r)) core (g .shown) (g .joined)
       (posted-add {s = m .store} (messages (m .waiting)) (q r) (g .posted) (family-placed family (m .store) was r (g .posted (q was) i)))
       (books-same (opens-holding l r v) (sized-holding l r v z) (g .books))
       (omega (arith, g .counted, unstamped-append (messages (m .waiting)) (q r ∷ []), asks-none (q r) (family-asks family r), same-last (opens-holding l r v)))
@@ -344,21 +352,22 @@ module _ {m : Machine} {h : History} {es : List Entry} (g : Good m h es) (wide :
           let i : p ∈ messages (m .waiting) = subst (λ (l : List Message). p ∈ l) (sym (s .split)) (inserted (front at (m .waiting)) p (back at (m .waiting))) in
           rw (order-stays m (done m (keeping (givenBy m) (deciding (addOne packet)))) es refl)
           (good-of (g .issued) (g .log) (g .n) (messages (m .waiting) ++ p ∷ []) (added-packet (m .waiting) wide (g .exact) packet roomy)
-          (core-add (g .core) p (g .core .packets .fine p i) u k) (g .shown)
+          (core-add (g .core) p (g .core .packets .fine p i) u k) (g .shown) (g .joined)
           (posted-add {s = m .store} (messages (m .waiting)) p (g .posted) (g .posted p i)) (g .books)
           (omega (arith, g .counted, unstamped-append (messages (m .waiting)) (p ∷ []), asks-none p u)) (g .switch-holds)
           (waiting.exact-edited (m .waiting) _ (g .exact)))
 
 -- ---- the chain
 
--- a store with the same members, and the list as it was
-good-store : {m : Machine} {h : History} {es : List Entry} (g : Good m h es) (t : List ℕ) → Shows t (g .log) (g .n) → members t ≡ members (m .store)
-    → Good (machine (m .switch) t (m .opens) (edited (m .waiting) noEdit)) h es
-good-store {m} g t s e =
-    good-of (g .issued) (g .log) (g .n) (messages (m .waiting)) (ap messages (edited-nothing (m .waiting))) (g .core) s
-    (λ q i. placed-same (m .store) t e q (g .posted q i)) (g .books) (g .counted) (g .switch-holds) (waiting.exact-edited (m .waiting) noEdit (g .exact))
+-- another store, which shows the same, and the list as it was
+good-store : {m : Machine} {h : History} {es : List Entry} (g : Good m h es) (t : List ℕ) → Shows t (g .log) (g .n) → JoinInvariant t
+    → ((r : ℕ) → AtHead (m .store) r → AtHead t r) → Good (machine (m .switch) t (m .opens) (edited (m .waiting) noEdit)) h es
+good-store {m} g t s j e =
+    good-of (g .issued) (g .log) (g .n) (messages (m .waiting)) (ap messages (edited-nothing (m .waiting))) (g .core) s j
+    (λ q i. placed-by (m .store) t e q (g .posted q i)) (g .books) (g .counted) (g .switch-holds) (waiting.exact-edited (m .waiting) noEdit (g .exact))
 
-module _ {m : Machine} {h : History} {es : List Entry} (g : Good m h es) (r : ℕ) where
+-- r is the table of the replica that advances, number the number that the step names
+module _ {m : Machine} {h : History} {es : List Entry} (g : Good m h es) (number r : ℕ) (live : isLive (m .store) r ≡ true) (p : 0 < pending (m .store) r) where
   -- the oldest write of the replica's link, and the store when it has applied it
   abbrev write : Write
   write = oldest (m .store) r
@@ -366,85 +375,146 @@ module _ {m : Machine} {h : History} {es : List Entry} (g : Good m h es) (r : �
   abbrev store : List ℕ
   store = applying (m .store) r write
 
-  abbrev Moves : Stored → Type 0
-  Moves u = Then (Advance r) m h es (changingStore (givenBy m) u)
+  abbrev Advances : Stored → Type 0
+  Advances u = Then (Advance number) m h es (changingStore (givenBy m) u)
 
-  good-advanced : isLive (m .store) r ≡ true → 0 < pending (m .store) r → (r ≡ tailOf (m .store) → ⊥) → Moves (stored (deciding noEdit) store)
-  good-advanced live p other =
+  small : write .object < 1024
+  small = log-small g write (rw (oldest-is (g .shown) r live p) (in-getD (g .log) (appliedBy (m .store) r) noWrite (oldest-below (g .shown) r live p)))
+
+  good-advanced : (r ≡ tailOf (m .store) → ⊥) → Advances (stored (deciding noEdit) store)
+  good-advanced other =
       let s : Shows store (g .log) (g .n) = shows-advanced (g .shown) r live p (g .core .visible .rising) (log-small g) other in
       rw (order-stays m (done m (changingStore (givenBy m) (stored (deciding noEdit) store))) es (s .tail-has ∙ sym (g .shown .tail-has)))
-      (good-store g store s (members-applying (m .store) r write))
+      (good-store g store s (joined-applying (m .store) r write (g .joined) live (g .shown .live) small other)
+      (at-head-same (places-applying (m .store) r write) (g .joined .places)))
 
-  good-advanced-tail : waiting.Roomy (m .waiting) → isLive (m .store) r ≡ true → 0 < pending (m .store) r → r ≡ tailOf (m .store) → overfull (held (m .waiting)) 0 2 ≡ false
-      → Moves (stored (deciding (sending write)) store)
-  good-advanced-tail wide live p last roomy =
-      let s : Shows store (g .log) (suc (g .n)) = shows-advanced-tail (g .shown) r live p (g .core .visible .rising) (log-small g) last in
+  -- the tail hands the write on to a newcomer
+  abbrev handed : List ℕ
+  handed = handingOn store write
+
+  places-handed : SamePlaces (m .store) handed
+  places-handed = places-trans (places-applying (m .store) r write) (places-handing store write)
+
+  good-advanced-tail : waiting.Roomy (m .waiting) → r ≡ tailOf (m .store) → overfull (held (m .waiting)) 0 2 ≡ false → Advances (stored (deciding (sending write)) handed)
+  good-advanced-tail wide last roomy =
+      let one-more : Shows store (g .log) (suc (g .n)) = shows-advanced-tail (g .shown) r live p (g .core .visible .rising) (log-small g) last in
+      let s : Shows handed (g .log) (suc (g .n)) = shows-handing one-more (places-same (places-applying (m .store) r write) (g .joined .places)) write small in
       let long : suc (g .n) ≤ length (g .log) = oldest-tail-below (g .shown) r live p last in
       let one : slice (g .n) (suc (g .n)) (g .log) ≡ write ∷ [] = visible-advanced-tail (g .shown) r live p last in
       let sent : List Message = Reply (write .operation) (write .value) 0 noFreshness ∷ Completion (write .object) (write .stamp) ∷ [] in
       let c = core-outcome (g .core) {n' = suc (g .n)} (omega arith) long sent (inr (write, one, refl)) in
-      let shown : madeVisible m (done m (changingStore (givenBy m) (stored (deciding (sending write)) store))) ≡ slice (g .n) (suc (g .n)) (g .log) =
-      rw (s .tail-has, g .shown .tail-has) (visible-advanced (g .shown) r live p (suc (g .n)) (omega arith) long) in
+      let shown : madeVisible m (done m (changingStore (givenBy m) (stored (deciding (sending write)) handed))) ≡ slice (g .n) (suc (g .n)) (g .log) =
+      rw (s .tail-has, g .shown .tail-has) (entries-handing store write _ _ ∙ visible-advanced (g .shown) r live p (suc (g .n)) (omega arith) long) in
       rw shown
       (good-of (g .issued) (g .log) (suc (g .n)) (messages (m .waiting) ++ sent)
       (added-two (m .waiting) wide (g .exact) (Reply (write .operation) (write .value) 0 noFreshness) (Completion (write .object) (write .stamp)) roomy) c s
-      (λ q i. placed-same (m .store) store (members-applying (m .store) r write) q
+      (joined-handing (m .store) r write (g .joined) live (g .shown .live) small (g .shown .sized) last)
+      (λ q i. placed-by (m .store) handed (at-head-same places-handed (g .joined .places)) q
       (elim (cases-append (messages (m .waiting)) i) [ inl j ↦ g .posted q j | inr j ↦ answer q j ]))
       (g .books) (omega (arith, g .counted, unstamped-append (messages (m .waiting)) sent)) (g .switch-holds) (waiting.exact-edited (m .waiting) _ (g .exact)))
     where
       answer : (q : Message) → q ∈ Reply (write .operation) (write .value) 0 noFreshness ∷ Completion (write .object) (write .stamp) ∷ [] → Placed (m .store) q
       answer q j = elim (cases-cons j) [ inl e ↦ rw e tt | inr i ↦ rw (only-member i) tt ]
 
+module _ {m : Machine} {h : History} {es : List Entry} (g : Good m h es) (r : ℕ) where
+  -- the table of the replica
+  abbrev table : ℕ
+  table = tableOf (m .store) r
+
+  abbrev Moves : Stored → Type 0
+  Moves u = Then (Advance r) m h es (changingStore (givenBy m) u)
+
   good-advance : waiting.Roomy (m .waiting) → Moves (advancing (m .store) (held (m .waiting)) r)
   unfolding advancing
   good-advance wide =
-      by-test Moves (isLive (m .store) r) _ _
-      (λ live. by-test Moves (eqb (pending (m .store) r) 0) _ _
+      by-test Moves (isMember (m .store) r) _ _
+      (λ member. by-test Moves (eqb (pendingAt (m .store) (placeOf (m .store) r) table) 0) _ _
       (λ none. good-refused (Advance r) NoLinkedWrite g)
       (λ some.
-      let p : 0 < pending (m .store) r = omega (arith, eqb-false (pending (m .store) r) 0 some) in
-      by-test Moves (eqb r (tailOf (m .store))) _ _
+      let live = table-live (m .store) r member in
+      let p : 0 < pending (m .store) table = omega (arith, eqb-false (pendingAt (m .store) (placeOf (m .store) r) table) 0 some, table-pending (m .store) r (g .shown .falls) member) in
+      by-test Moves (isTail (m .store) r) _ _
       (λ e. by-test Moves (overfull (held (m .waiting)) 0 2) _ _
       (λ full. good-refused (Advance r) WaitingFull g)
-      (λ roomy. good-advanced-tail wide live p (eqb-true r (tailOf (m .store)) e) roomy))
-      (λ e. good-advanced live p (eqb-false r (tailOf (m .store)) e))))
+      (λ roomy. good-advanced-tail g r table live p wide (tail-table (m .store) r e) roomy))
+      (λ e. good-advanced g r table live p (table-not-tail (m .store) r (g .shown .falls) member e))))
       (λ gone. good-refused (Advance r) NotLive g)
 
   good-tell : Then (Tell r) m h es (changingStore (givenBy m) (telling (m .switch) (m .store) r))
   unfolding telling
   good-tell =
-      by-test (λ (u : Stored). Then (Tell r) m h es (changingStore (givenBy m) u)) (isLive (m .store) r) _ _
-      (λ live.
-      let told = permitting (m .store) r (numberIn (m .switch)) in
-      let s = shows-permitting (g .shown) r (numberIn (m .switch)) in
+      both (λ (u : Stored). Then (Tell r) m h es (changingStore (givenBy m) u)) (isMember (m .store) r)
+      (let told = permitting (m .store) table (numberIn (m .switch)) in
+      let s = shows-permitting (g .shown) table (numberIn (m .switch)) in
       rw (order-stays m (done m (changingStore (givenBy m) (stored (deciding noEdit) told))) es (s .tail-has ∙ sym (g .shown .tail-has)))
-      (good-store g told s (members-permitting (m .store) r (numberIn (m .switch)))))
-      (λ gone. good-refused (Tell r) NotLive g)
+      (good-store g told s (joined-permitting (m .store) table (numberIn (m .switch)) (g .joined))
+      (at-head-same (places-permitting (m .store) table (numberIn (m .switch))) (g .joined .places))))
+      (good-refused (Tell r) NotLive g)
 
   good-remove : Then (Remove r) m h es (changingStore (givenBy m) (removing (m .store) r))
   unfolding removing
   good-remove =
-      by-test P (isLive (m .store) r) _ _
-      (λ live. by-test P (leb (liveCount (m .store)) 1) _ _
+      by-test P (isMember (m .store) r) _ _
+      (λ member. by-test P (leb (liveCount (m .store)) 1) _ _
       (λ one. good-refused (Remove r) LastReplica g)
-      (λ several. goes live (leb-false (liveCount (m .store)) 1 several)))
+      (λ several. goes member (leb-false (liveCount (m .store)) 1 several)))
       (λ gone. good-refused (Remove r) NotLive g)
     where
       P : Stored → Type 0
       P u = Then (Remove r) m h es (changingStore (givenBy m) u)
 
-      goes : isLive (m .store) r ≡ true → 1 < liveCount (m .store) → P (stored (deciding noEdit) (removed (m .store) r))
-      goes live several =
-          let t = shows-removed (g .shown) r live several in
+      goes : isMember (m .store) r ≡ true → 1 < liveCount (m .store) → P (stored (deciding noEdit) (without (m .store) r))
+      goes member several =
+          let before = shows-ended (g .shown) (g .joined) r member in
+          let is = without-is (g .shown) (g .joined) r member in
+          let t = shows-removed before table (ended-live (g .shown) (g .joined) r member) (omega (arith, several, ended-count (g .shown) (g .joined) r member)) in
+          let s : Shows (without (m .store) r) (take (t .0) (g .log)) (t .1) = rw is (t .5) in
           let cut = core-cut (g .core) (t .0) (omega (arith, t .2, t .3)) in
           let long : length (take (t .0) (g .log)) ≡ t .0 = length-take-le (t .0) (g .log) (t .4) in
           let c = core-outcome cut {n' = t .1} (t .2) (omega (arith, long, t .3)) [] (inl refl) in
-          let shown : madeVisible m (done m (changingStore (givenBy m) (stored (deciding noEdit) (removed (m .store) r)))) ≡ slice (g .n) (t .1) (take (t .0) (g .log)) =
-          rw (t .5 .tail-has, g .shown .tail-has) (visible-removed (g .shown) r (t .0) (t .1) (t .2) (t .3) (t .4)) in
+          let shown : madeVisible m (done m (changingStore (givenBy m) (stored (deciding noEdit) (without (m .store) r)))) ≡ slice (g .n) (t .1) (take (t .0) (g .log)) =
+          rw (s .tail-has, g .shown .tail-has, is) (visible-removed before table (t .0) (t .1) (t .2) (t .3) (t .4)) in
           rw shown
-          (good-of (g .issued) (take (t .0) (g .log)) (t .1) (messages (m .waiting)) (ap messages (edited-nothing (m .waiting))) (rw append-nil at c) (t .5)
-          (λ q i. placed-removed (m .store) (g .shown .sized) (g .shown .falls) r live several q (g .posted q i)) (g .books) (g .counted) (g .switch-holds)
+          (good-of (g .issued) (take (t .0) (g .log)) (t .1) (messages (m .waiting)) (ap messages (edited-nothing (m .waiting))) (rw append-nil at c) s
+          (joined-without (g .shown) (g .joined) r member)
+          (λ q i. placed-by (m .store) (without (m .store) r) (at-head-without (g .shown) (g .joined) r member) q (g .posted q i)) (g .books) (g .counted) (g .switch-holds)
           (waiting.exact-edited (m .waiting) noEdit (g .exact)))
+
+-- ---- a replica joins
+
+module _ {m : Machine} {h : History} {es : List Entry} (g : Good m h es) where
+  good-join : Then Join m h es (changingStore (givenBy m) (joining (m .store)))
+  unfolding joining
+  good-join =
+      by-test P (isFull (m .store)) _ _
+      (λ full. good-refused Join ChainFull g)
+      (λ room. both P (isJoining (m .store)) (good-refused Join JoinUnderWay g) (begins (not-full (m .store) room)))
+    where
+      P : Stored → Type 0
+      P u = Then Join m h es (changingStore (givenBy m) u)
+
+      begins : (liveCount (m .store) < 8) × (lastNumber (m .store) < 255) → P (stored (deciding noEdit) (beginning (m .store)))
+      begins room =
+          let z = g .shown .sized in
+          let s = shows-kept (replicas-beginning (m .store) z (room .0) (room .1)) (g .shown) in
+          rw (order-stays m (done m (changingStore (givenBy m) (stored (deciding noEdit) (beginning (m .store))))) es (s .tail-has ∙ sym (g .shown .tail-has)))
+          (good-store g (beginning (m .store)) s (joined-beginning (m .store) z (room .0) (room .1) (g .joined)) (at-head-beginning (m .store) z (room .0) (room .1)))
+
+  good-copy : Then Copy m h es (changingStore (givenBy m) (copyingOn (m .store)))
+  unfolding copyingOn
+  good-copy =
+      by-test P (isJoining (m .store)) _ _
+      (λ joins. both P (leb 8 (liveCount (m .store))) (good-refused Copy ChainFull g) (copies joins))
+      (λ none. good-refused Copy NoJoin g)
+    where
+      P : Stored → Type 0
+      P u = Then Copy m h es (changingStore (givenBy m) u)
+
+      copies : isJoining (m .store) ≡ true → P (stored (deciding noEdit) (copying (m .store)))
+      copies joins =
+          let s = shows-copying (g .shown) (g .joined) joins in
+          rw (order-stays m (done m (changingStore (givenBy m) (stored (deciding noEdit) (copying (m .store))))) es (s .tail-has ∙ sym (g .shown .tail-has)))
+          (good-store g (copying (m .store)) s (joined-copying (g .shown) (g .joined) joins) (at-head-copying (g .shown) (g .joined) joins))
 
 -- ---- the switch is replaced, and an operation is given up
 
@@ -456,7 +526,7 @@ good-replace {m} {h} {es} g number =
     (λ e.
     rw (order-stays m (done m (changingSwitch (givenBy m) (switched (deciding noEdit) (newSwitch number)))) es refl)
     (good-of (g .issued) (g .log) (g .n) (messages (m .waiting)) (ap messages (edited-nothing (m .waiting))) (rw (new-committed number) (core-reset (g .core)))
-    (g .shown) (g .posted) (g .books) (omega (arith, g .counted, new-counter number)) (invariant-new number) (waiting.exact-edited (m .waiting) noEdit (g .exact))))
+    (g .shown) (g .joined) (g .posted) (g .books) (omega (arith, g .counted, new-counter number)) (invariant-new number) (waiting.exact-edited (m .waiting) noEdit (g .exact))))
 
 good-give-up : {m : Machine} {h : History} {es : List Entry} (g : Good m h es) (o : ℕ) → Then (GiveUp o) m h es (changingOpens (givenBy m) (givingUp (m .opens) o))
 unfolding givingUp
@@ -465,7 +535,7 @@ good-give-up {m} {h} {es} g o =
     (λ still.
     rw (order-stays m (machine (m .switch) (m .store) (closing (m .opens) o) (edited (m .waiting) noEdit)) es refl)
     (good-of (g .issued) (g .log) (g .n) (messages (m .waiting)) (ap messages (edited-nothing (m .waiting)))
-    (core-rows (g .core) (λ q i r n. context-closing (m .opens) o r)) (g .shown) (g .posted)
+    (core-rows (g .core) (λ q i r n. context-closing (m .opens) o r)) (g .shown) (g .joined) (g .posted)
     (books-closed o still (g .books)) (omega (arith, g .counted, last-closing (m .opens) o (g .books .cells) still)) (g .switch-holds)
     (waiting.exact-edited (m .waiting) noEdit (g .exact))))
     (λ e. good-refused (GiveUp o) NotOpen g)
@@ -491,6 +561,8 @@ good-decided g wide (Tell r) some = good-tell g r
 good-decided g wide (Remove r) some = good-remove g r
 good-decided g wide (GiveUp o) some = good-give-up g o
 good-decided g wide (BeginContext x) some = good-begin-context g wide x (not-false-true (isNaming x) some)
+good-decided g wide Join some = good-join g
+good-decided g wide Copy some = good-copy g
 
 -- where fewer than 64 places are lent for the packets, every step is refused
 pub good-step : {m : Machine} {h : History} {es : List Entry} (g : Good m h es) (x : Step) → Then x m h es (outcomeOf m x)

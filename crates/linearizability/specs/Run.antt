@@ -8,7 +8,7 @@ use Rattle.waiting.specs.declared.Packet.{Packet}
 use Rattle.protocol.specs.declared.Answer.{Answer}
 use Rattle.protocol.specs.declared.Answer.the-variants.{Done, Finished, FinishedContext, Refused}
 use Rattle.protocol.specs.declared.Step.{Step}
-use Rattle.protocol.specs.declared.Step.the-variants.{Start, BeginRead, BeginWrite, Deliver, Lose, Repeat, Advance, Replace, Tell, Remove, GiveUp, BeginContext}
+use Rattle.protocol.specs.declared.Step.the-variants.{Start, BeginRead, BeginWrite, Deliver, Lose, Repeat, Advance, Replace, Tell, Remove, GiveUp, BeginContext, Join, Copy}
 use Rattle.protocol.specs.Steps.{Machine, answerTo, after, started}
 
 -- how many operations have begun
@@ -45,6 +45,8 @@ noted (Tell r) a h = h
 noted (Remove r) a h = h
 noted (GiveUp o) a h = h
 noted (BeginContext x) a h = beginning (reads (numbersOf (contextOf x))) a h
+noted Join a h = h
+noted Copy a h = h
 
 -- 'Each step gets the state, the waiting packets and the open operations .. as the step before returned or left them'
 abbrev pub historyFrom : Machine → History → List Step → History
@@ -96,6 +98,8 @@ openNoted (Tell r) a h l = l
 openNoted (Remove r) a h l = l
 openNoted (GiveUp o) a h l = openGivenUp o a l
 openNoted (BeginContext x) a h l = openBegun a h l
+openNoted Join a h l = l
+openNoted Copy a h l = l
 
 abbrev pub openFrom : Machine → History → List ℕ → List Step → List ℕ
 openFrom m h l [] = l

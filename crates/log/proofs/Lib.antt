@@ -2,3 +2,16 @@ pub mod Log
 pub mod Holds
 pub mod Shows
 pub mod Moves
+pub mod Kept
+pub mod Places
+pub mod Tables
+pub mod Joins
+pub mod Copies
+pub mod Promotion
+pub mod Newcomer
+pub mod Beside
+pub mod Joined
+pub mod Without
+pub mod Links
+pub mod NewTail
+pub mod Taken

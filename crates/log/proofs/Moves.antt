@@ -18,7 +18,7 @@ use Rattle.chain.proofs.Members.{member-in, in-live, live-in, place-at, place-b
 use Rattle.replicas.proofs.Cells.{SizedStore, entry-applying, sized-logged, members-logged, highest-logged, applied-logged, value-logged, stamp-logged, entry-logged-same, entry-logged-other}
 use Rattle.replicas.proofs.Cells.{positions-apart, sized-removed, highest-removed, applied-removed, entry-removed, value-removed, stamp-removed}
 use Rattle.replicas.proofs.Shape.{count-removed, member-removed-before, member-removed-behind}
-use Rattle.replicas.proofs.Moves.{accepts-live, accepts-above, accepts-room, accepts-position, pending-after, pending-is, taking-is}
+use Rattle.replicas.proofs.Moves.{accepts-above, accepts-room, accepts-position, pending-after, pending-is, taking-is}
 use Rattle.replicas.proofs.Moves as moves
 use Rattle.replicas.proofs.Descending.{Descending, pending-short, descending-logged, descending-removed}
 use Rattle.log.proofs.Log.{top, Rising, rising-append}
@@ -129,7 +129,7 @@ module _ {s : List ℕ} {log : List Write} {n : ℕ} (k : Shows s log n) where
   module _ (r : ℕ) (w : Write) (a : accepts s r (w .stamp) ≡ true) (first : r ≡ headOf s) where
     -- the head, which has applied the whole log
     taken-live : isLive s r ≡ true
-    taken-live = accepts-live s r (w .stamp) a
+    taken-live = rw first (head-live k)
 
     taken-at : appliedBy s r ≡ length log
     taken-at = ap (appliedBy s) first ∙ k .head-has
@@ -210,25 +210,25 @@ module _ {s : List ℕ} {log : List Write} {n : ℕ} (k : Shows s log n) where
 -- ---- a replica is removed
 
 -- the members that are left were members
-pub removed-live : (s : List ℕ) (r q : ℕ) → SizedStore s → isLive s r ≡ true → isLive (removed s r) q ≡ true → isLive s q ≡ true
+pub removed-live : (s : List ℕ) (r q : ℕ) → SizedStore s → isLive s r ≡ true → isLive (removed s (chainPlace s r)) q ≡ true → isLive s q ≡ true
 removed-live s r q z e f =
-    let place = chainPlace (removed s r) q in
+    let place = chainPlace (removed s (chainPlace s r)) q in
     elim (decLt place (chainPlace s r)) [
       | yes l ↦ stood place (omega arith) (sym (member-removed-before s r z e place l))
       | no l ↦ stood (place + 1) (omega arith) (sym (member-removed-behind s r z e place (omega arith)))
     ]
   where
-    stood : (p : ℕ) → p ≤ chainPlace (removed s r) q + 1 → memberAt s p ≡ memberAt (removed s r) (chainPlace (removed s r) q) → isLive s q ≡ true
+    stood : (p : ℕ) → p ≤ chainPlace (removed s (chainPlace s r)) q + 1 → memberAt s p ≡ memberAt (removed s (chainPlace s r)) (chainPlace (removed s (chainPlace s r)) q) → isLive s q ≡ true
     stood p b h =
-        rw (h ∙ place-at (removed s r) q f) at
-        (in-live s (memberAt s p) (member-in s p (omega (arith, place-below (removed s r) q f, count-removed s r z e))))
+        rw (h ∙ place-at (removed s (chainPlace s r)) q f) at
+        (in-live s (memberAt s p) (member-in s p (omega (arith, place-below (removed s (chainPlace s r)) q f, count-removed s r z e))))
 
 module _ {s : List ℕ} {log : List Write} {n : ℕ} (k : Shows s log n) where
   -- the log is cut to the first m writes, what the head has applied, and the tail has applied n' of them
   pub shows-removed : (r : ℕ) → isLive s r ≡ true → 1 < liveCount s
-      → (m : ℕ) × (n' : ℕ) × (n ≤ n') × (n' ≤ m) × (m ≤ length log) × Shows (removed s r) (take m log) n'
+      → (m : ℕ) × (n' : ℕ) × (n ≤ n') × (n' ≤ m) × (m ≤ length log) × Shows (removed s (chainPlace s r)) (take m log) n'
   shows-removed r e h =
-      let t = removed s r in
+      let t = removed s (chainPlace s r) in
       let m = appliedBy t (headOf t) in
       let n' = appliedBy t (tailOf t) in
       let some : 0 < liveCount t = omega (arith, count-removed s r (k .sized) e) in
@@ -262,7 +262,7 @@ module _ {s : List ℕ} {log : List Write} {n : ℕ} (k : Shows s log n) where
       )
 
   -- the writes that become visible, where the log is cut to the first m and the tail has applied n' of them
-  pub visible-removed : (r m n' : ℕ) → n ≤ n' → n' ≤ m → m ≤ length log → entries (removed s r) n (n' - n) ≡ slice n n' (take m log)
+  pub visible-removed : (r m n' : ℕ) → n ≤ n' → n' ≤ m → m ≤ length log → entries (removed s (chainPlace s r)) n (n' - n) ≡ slice n n' (take m log)
   visible-removed r m n' g h l =
       rw (take-take n' m log h)
-      (entries-shown (removed s r) log n n' g (omega arith) (λ i a b. entry-removed s r i ∙ k .entries-are i a (omega arith)))
+      (entries-shown (removed s (chainPlace s r)) log n n' g (omega arith) (λ i a b. entry-removed s r i ∙ k .entries-are i a (omega arith)))

@@ -49,7 +49,7 @@ abbrev pub Switch : RattleType
 Switch = Array u32 101
 
 abbrev pub Store : RattleType
-Store = Array u32 16673
+Store = Array u32 16675
 
 abbrev pub Opens : RattleType
 Opens = Array u32 642

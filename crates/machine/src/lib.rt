@@ -68,6 +68,8 @@ fn position(x: Step) -> usize
         Step::Remove(r) => 0,
         Step::GiveUp(o) => 0,
         Step::BeginContext(x) => 0,
+        Step::Join => 0,
+        Step::Copy => 0,
     }
 }
 

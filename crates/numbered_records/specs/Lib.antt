@@ -1,5 +1,5 @@
 -- Records from numbers: what the exported writers take and give.
-use mathlib.Core.Bool.{Bool, false, cond}
+use mathlib.Core.Bool.{Bool, false, cond, not}
 use mathlib.Core.List.{List}
 use Prim.Native.Nat.{ℕ, _+_, _%_}
 use lib.Dec.{eqb, leb}
@@ -9,22 +9,26 @@ use Rattle.contexts.specs.declared.Objects.{Objects}
 use Rattle.contexts.specs.{context}
 use Rattle.protocol.specs.declared.Refusal.the-variants.{Format}
 use Rattle.protocol.specs.declared.Step.{Step}
-use Rattle.protocol.specs.declared.Step.the-variants.{Start, BeginRead, BeginWrite, Deliver, Lose, Repeat, Advance, Replace, Tell, Remove, GiveUp, BeginContext}
+use Rattle.protocol.specs.declared.Step.the-variants.{Start, BeginRead, BeginWrite, Deliver, Lose, Repeat, Advance, Replace, Tell, Remove, GiveUp, BeginContext, Join, Copy}
 use Rattle.protocol.specs.Answers.{refusalNumber}
-use Rattle.records.specs.Records.{kindOfTag, contextKind, contentLength, writtenAt, bufferAfter, writtenRefusal}
+use Rattle.records.specs.Records.{kindOfTag, contextKind, noStep, contentLength, writtenAt, bufferAfter, writtenRefusal}
 
 -- the largest first and second number of each kind of step: what its fields hold
 unfoldable pub largestFirst : ℕ → ℕ
 largestFirst k =
-    cond (eqb k 0) 255 (cond (eqb k 6) 255 (cond (eqb k 8) 255 (cond (eqb k 9) 255 65535)))
+    cond (eqb k 0) 255 (cond (eqb k 6) 255 (cond (eqb k 8) 255 (cond (eqb k 9) 255 (cond (eqb k 12) 0 (cond (eqb k 13) 0 65535)))))
 
 unfoldable pub largestSecond : ℕ → ℕ
 largestSecond k = cond (eqb k 2) 4294967295 (cond (eqb k 3) 255 0)
 
--- the tag is that of a record of at most two numbers, and the numbers fit its fields
+-- the record of this kind has at most two numbers
+unfoldable pub hasNumbers : ℕ → Bool
+hasNumbers k = cond (eqb k contextKind) false (not (eqb k noStep))
+
+-- the tag is that of such a record, and the numbers fit its fields
 unfoldable pub isRecord : ℕ → ℕ → ℕ → Bool
 isRecord tag a b =
-    cond (leb contextKind (kindOfTag tag)) false (cond (leb a (largestFirst (kindOfTag tag))) (leb b (largestSecond (kindOfTag tag))) false)
+    cond (hasNumbers (kindOfTag tag)) (cond (leb a (largestFirst (kindOfTag tag))) (leb b (largestSecond (kindOfTag tag))) false) false
 
 -- the step of a kind with these numbers
 unfoldable pub stepFrom : ℕ → ℕ → ℕ → Step
@@ -37,7 +41,8 @@ stepFrom k a b =
     (cond (eqb k 5) (Repeat (a % 65536))
     (cond (eqb k 6) (Advance (a % 256))
     (cond (eqb k 7) (Replace (a % 65536))
-    (cond (eqb k 8) (Tell (a % 256)) (cond (eqb k 9) (Remove (a % 256)) (GiveUp (a % 65536)))))))))))
+    (cond (eqb k 8) (Tell (a % 256))
+    (cond (eqb k 9) (Remove (a % 256)) (cond (eqb k 12) Join (cond (eqb k 13) Copy (GiveUp (a % 65536)))))))))))))
 
 -- refusal 1 where there is no such record, 15 where the buffer is too short, 0 where it is written
 unfoldable pub recordRefusal : List ℕ → ℕ → ℕ → ℕ → ℕ
@@ -48,7 +53,7 @@ recordBuffer buf tag a b = cond (isRecord tag a b) (bufferAfter buf 0 (stepFrom 
 
 -- how long the record of a tag is, 0 for an unknown one, and for a read of a whole context, which has no fixed length
 unfoldable pub recordSize : ℕ → ℕ
-recordSize tag = cond (leb contextKind (kindOfTag tag)) 0 (3 + contentLength (kindOfTag tag))
+recordSize tag = cond (hasNumbers (kindOfTag tag)) (3 + contentLength (kindOfTag tag)) 0
 
 -- the objects of a lent list of at most eight
 unfoldable pub objectsFrom : List ℕ → Objects

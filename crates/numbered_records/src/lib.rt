@@ -3,12 +3,13 @@ ghost use mathlib.Core.Path.{_≡_};
 ghost use Prim.Native.Nat.{_≤_};
 ghost use lib.ListN.{length, getD};
 ghost use Rattle.records.specs.Records.{writtenAt, bufferAfter, writtenRefusal};
-ghost use Rattle.numbered_records.specs.{largestFirst, largestSecond, isRecord, stepFrom, recordRefusal, recordBuffer, recordSize, objectsFrom, contextRefusal, contextBuffer};
+ghost use Rattle.numbered_records.specs.{largestFirst, largestSecond, hasNumbers, isRecord, stepFrom, recordRefusal, recordBuffer, recordSize, objectsFrom, contextRefusal, contextBuffer};
 use contexts::Objects;
 use protocol::Refusal;
 use protocol::Step;
 use protocol::answers;
 use records::CONTEXT_KIND;
+use records::NO_STEP;
 use records::Written;
 
 fn largest_first(kind: usize) -> u32
@@ -19,6 +20,8 @@ fn largest_first(kind: usize) -> u32
         6 => 255,
         8 => 255,
         9 => 255,
+        12 => 0,
+        13 => 0,
         _ => 65535,
     }
 }
@@ -33,11 +36,21 @@ fn largest_second(kind: usize) -> u32
     }
 }
 
+// Whether the record of this kind has at most two numbers.
+fn has_numbers(kind: usize) -> bool
+    ensures { λ r. ⌜ r ≡ hasNumbers kind ⌝ }
+{
+    if kind == CONTEXT_KIND {
+        return false;
+    }
+    kind != NO_STEP
+}
+
 fn is_record(tag: u8, first: u32, second: u32) -> bool
     ensures { λ r. ⌜ r ≡ isRecord tag first second ⌝ }
 {
     let kind = records::kind_of_tag(tag);
-    if CONTEXT_KIND <= kind {
+    if !has_numbers(kind) {
         return false;
     }
     if first <= largest_first(kind) {
@@ -60,6 +73,8 @@ fn step_from(kind: usize, first: u32, second: u32) -> Step
         7 => Step::Replace((first % 65536) as u16),
         8 => Step::Tell((first % 256) as u8),
         9 => Step::Remove((first % 256) as u8),
+        12 => Step::Join,
+        13 => Step::Copy,
         _ => Step::GiveUp((first % 65536) as u16),
     }
 }
@@ -126,7 +141,7 @@ pub fn record_length(tag: u8) -> u16
     ensures { λ r. ⌜ r ≡ recordSize tag ⌝ }
 {
     let kind = records::kind_of_tag(tag);
-    if CONTEXT_KIND <= kind {
+    if !has_numbers(kind) {
         return 0;
     }
     3 + records::content_length(kind)

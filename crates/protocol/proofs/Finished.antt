@@ -9,7 +9,7 @@ use Rattle.limits.specs as limits
 use Rattle.operations.specs.{isOpen}
 use Rattle.contexts.specs.declared.Context.{Context}
 use Rattle.contexts.specs.{isCount, isContext, contextAt}
-use Rattle.chain.specs.{isLive, tailOf, allPermit}
+use Rattle.chain.specs.{isMember, isTail, tableOf, allPermit}
 use Rattle.replicas.specs.Replicas.{accepts, answersDirect}
 use Rattle.switch.specs.Numbers.{numberIn, directIn}
 use Rattle.switch.specs.DirtySet.{lookedUp, marked, stampFor}
@@ -59,11 +59,14 @@ module _ (g : Given) (at choice : ℕ) where
       both P (directIn (g .switch)) (both P (eqb (lookedUp (g .switch) x) 0) tt tt) tt
   message-replies (StampedWrite r w) =
       let P : Stored → Type 0 = λ u. Ends (StampedWrite r w) (changingStore g u) in
-      both P (accepts (g .store) r (w .stamp)) (both P (eqb r (tailOf (g .store))) (both P (overfull (g .held) 1 2) tt tt) tt) tt
+      both P (isMember (g .store) r)
+      (both P (accepts (g .store) (tableOf (g .store) r) (w .stamp)) (both P (isTail (g .store) r) (both P (overfull (g .held) 1 2) tt tt) tt) tt) tt
   message-replies (DirectRead r number t o x) =
       let P : Decision → Type 0 = λ d. Ends (DirectRead r number t o x) (keeping g d) in
-      both P (isLive (g .store) r) (both P (answersDirect (g .store) r x number t) tt tt) tt
-  message-replies (NormalRead r o x t) = both (λ (d : Decision). Ends (NormalRead r o x t) (keeping g d)) (isLive (g .store) r) tt tt
+      both P (isMember (g .store) r) (both P (answersDirect (g .store) (tableOf (g .store) r) x number t) tt tt) tt
+  message-replies (NormalRead r o x t) =
+      let P : Decision → Type 0 = λ d. Ends (NormalRead r o x t) (keeping g d) in
+      both P (isMember (g .store) r) (both P (isTail (g .store) r) tt tt) tt
   message-replies (Completion x t) = tt
   message-replies (Reply o v t f) =
       by-test (λ (u : Opened). Ends (Reply o v t f) (changingOpens g u)) (isOpen (g .opens) o) (λ still. (still, refl, t, refl)) (λ shut. tt)
@@ -72,11 +75,11 @@ module _ (g : Given) (at choice : ℕ) where
       both P (isContext (contextAt (g .opens) r)) (both P (goesDirectly (g .switch) (contextAt (g .opens) r)) tt tt) tt
   message-replies (DirectContext q number t o r) =
       let P : Opened → Type 0 = λ u. Ends (DirectContext q number t o r) (changingOpens g u) in
-      both P (isLive (g .store) q)
-      (both P (isContext (contextAt (g .opens) r)) (both P (answersContext (g .store) q number t (contextAt (g .opens) r)) tt tt) tt) tt
+      both P (isMember (g .store) q)
+      (both P (isContext (contextAt (g .opens) r)) (both P (answersContext (g .store) (tableOf (g .store) q) number t (contextAt (g .opens) r)) tt tt) tt) tt
   message-replies (NormalContext q o r) =
       let P : Opened → Type 0 = λ u. Ends (NormalContext q o r) (changingOpens g u) in
-      both P (isLive (g .store) q) (both P (isContext (contextAt (g .opens) r)) tt tt) tt
+      both P (isMember (g .store) q) (both P (isContext (contextAt (g .opens) r)) (both P (isTail (g .store) q) tt tt) tt) tt
   message-replies (ContextReply o r) =
       let P : Opened → Type 0 = λ u. Ends (ContextReply o r) (changingOpens g u) in
       by-test P (isOpen (g .opens) o) (λ still. by-test P (isCount (contextAt (g .opens) r .count)) (λ c. (still, refl, c, r, refl)) (λ c. tt)) (λ shut. tt)

@@ -14,7 +14,7 @@ use Rattle.waiting.specs.Waiting.{lookAt}
 use Rattle.protocol.specs.declared.Message.{Message}
 use Rattle.protocol.specs.declared.Message.the-variants.{UnstampedWrite, SwitchRead, StampedWrite, DirectRead, NormalRead, Completion, Reply, ContextRead, DirectContext, NormalContext, ContextReply, Unknown}
 use Rattle.protocol.specs.declared.Step.{Step}
-use Rattle.protocol.specs.declared.Step.the-variants.{Start, BeginRead, BeginWrite, Deliver, Lose, Repeat, Advance, Replace, Tell, Remove, GiveUp, BeginContext}
+use Rattle.protocol.specs.declared.Step.the-variants.{Start, BeginRead, BeginWrite, Deliver, Lose, Repeat, Advance, Replace, Tell, Remove, GiveUp, BeginContext, Join, Copy}
 use Rattle.protocol.specs.Messages.{messageOf}
 use Rattle.protocol.specs.Decisions.{Given, Outcome}
 use Rattle.protocol.specs.Delivery.{deliveredMessage}
@@ -49,6 +49,8 @@ setsMarks p (Tell r) = false
 setsMarks p (Remove r) = false
 setsMarks p (GiveUp o) = false
 setsMarks p (BeginContext x) = false
+setsMarks p Join = false
+setsMarks p Copy = false
 
 -- the switch of an outcome, where both of its cases have the same
 either : (b : Bool) (u v : Outcome) (w : List ℕ) → u .switch ≡ w → v .switch ≡ w → cond b u v .switch ≡ w
@@ -89,6 +91,8 @@ step-hands-on g p (Tell r) e = refl
 step-hands-on g p (Remove r) e = refl
 step-hands-on g p (GiveUp o) e = refl
 step-hands-on g p (BeginContext x) e = refl
+step-hands-on g p Join e = refl
+step-hands-on g p Copy e = refl
 
 -- whatever the state
 pub switch-handed-on : (m : Machine) (x : Step) → setsMarks (lookAt (m .waiting .packets) (positionOf x)) x ≡ false → after m x .switch ≡ m .switch

@@ -11,9 +11,10 @@ use Rattle.lists.specs.{indexOf, listOf, moves, allOf}
 use Rattle.contexts.specs.{placeOf, sizeOf, numbersOf, isCount, isObject, areObjects, standsFirst, areDifferent, emptyAt, isNaming, rowCell, sizeAt, freeRow}
 use Rattle.stamp.specs.Stamps.{stampOf, numberOf, counterOf, isAbove, largerOf}
 use Rattle.operations.specs.{noneOpen, openCount, openNumbers, openPlace, isOpen, lastGiven, roomToOpen, opening}
-use Rattle.store.specs.{entryCell, valueCell, stampCell, storeCells, liveCount, orderAt, members, rowOf, highestOf, permittedBy, appliedBy, valueAt, stampAt, logged, tabled, raised}
-use Rattle.chain.specs.{chainPlace, isLive, memberAt, headOf, tailOf, chosenBy, permits, allPermit, permitting, removed, emptyCells, numbered, emptyStore}
-use Rattle.replicas.specs.Replicas.{linkedWrites, accepts, nextPosition, applying, taking, pendingAt, pending, oldest, answersDirect}
+use Rattle.store.specs.{entryCell, valueCell, stampCell, storeCells, liveCount, orderAt, numberAt, members, rowOf, highestOf, permittedBy, appliedBy, valueAt, stampAt, logged, tabled, raised}
+use Rattle.chain.specs.{memberAt, headOf, tailOf, numbers, placeOf as placeOfNumber, isMember, isTail, tableOf, numberIn as numberInChain, headNumber, tailNumber, chosenBy, permits, allPermit, permitting, removed, emptyCells, numbered, emptyStore}
+use Rattle.replicas.specs.Replicas.{linkedWrites, accepts, nextPosition, applying, taking, pendingAt, oldest, answersDirect}
+use Rattle.joins.specs.{isJoining, copiesMade, isCopied, handingOn, joinEnded, without}
 use Rattle.switch.specs.Numbers.{slots, marksCell, numberIn, counterIn, committedIn, directIn, marksIn, slotObject, slotStamp}
 use Rattle.slots.specs.{firstSlot, secondSlot, thirdSlot, holdsObject, countsAbove, isFree, holdsAbove, isCompleted}
 use Rattle.switch.specs.DirtySet.{freeSlot, slotFor, markAbove, lookedUp, nextStamp, lessOne, oneMore, marksFor, marking, canMark, marked, stampFor, clearedAt, committing, completed, newSwitch, countedTo, countedMarks}
@@ -39,23 +40,23 @@ pub record Point : Type 0 where
   pub tests : List Bool
 
 -- a row of the table
-abbrev point : ℕ → List Bool → Point
+abbrev pub point : ℕ → List Bool → Point
 point number tests = record { number = number; tests = tests }
 
 -- every test passes
-pub allTrue : List Bool → Bool
+unfoldable pub allTrue : List Bool → Bool
 allTrue [] = true
 allTrue (b ∷ l) = cond b (allTrue l) false
 
 -- the rows are numbered from n up to the last one, and every test of each passes
-pub allHold : ℕ → ℕ → List Point → Bool
+unfoldable pub allHold : ℕ → ℕ → List Point → Bool
 allHold n last [] = eqb n (last + 1)
 allHold n last (p ∷ l) = cond (eqb (p .number) n) (cond (allTrue (p .tests)) (allHold (n + 1) last l) false) false
 
 -- ---- what the rows speak of
 
 -- the answer is the refusal with this number; 0 stands for a step that was done
-gives : Answer → ℕ → Bool
+unfoldable pub gives : Answer → ℕ → Bool
 gives Done n = eqb 0 n
 gives (Finished o v f) n = eqb 0 n
 gives (FinishedContext o v) n = eqb 0 n
@@ -70,7 +71,7 @@ copies : ℕ → Message → WaitingList
 copies n q = waitingList (replicate limits.waiting (packetOf q)) n
 
 -- 64 places, and no packet waiting
-emptyList : WaitingList
+unfoldable pub emptyList : WaitingList
 emptyList = noneWait (replicate limits.waiting blank)
 
 -- the switch after these objects were marked in turn
@@ -95,7 +96,7 @@ readOfP6 : ℕ → Decision
 readOfP6 t = directRead storeOfP6 0 1 1 t 7 0
 
 -- the decision puts this message, and no other, into the waiting list
-sends : Decision → Message → Bool
+unfoldable pub sends : Decision → Message → Bool
 sends d q = same (d .edit .first) (packetOf q)
   where
     same : Packet → Packet → Bool
@@ -110,7 +111,7 @@ writeOfP10 = StampedWrite 1 (record { operation = 1; object = 5; value = 9; stam
 
 -- of four replicas, 3 is gone
 storeOfP11 : List ℕ
-storeOfP11 = removed (emptyStore 4) 3
+storeOfP11 = removed (emptyStore 4) 2
 
 -- a step that names n objects: these eight, as far as they are given
 naming : ℕ → List ℕ → Step
@@ -241,5 +242,5 @@ pub record PointsHold : Type 0 where
   pub marks-points-hold : allHold 1 7 marks-points ≡ true
 
 pub holds : PointsHold
-unfolding points allHold allTrue gives lone copies emptyList markedAll switchOfP4 switchOfP7 storeOfP6 readOfP6 sends writeOfP10 storeOfP11 stampOf numberOf counterOf isAbove largerOf noneOpen openCount lastGiven roomToOpen indexOf listOf moves entryCell valueCell stampCell storeCells liveCount orderAt members rowOf highestOf permittedBy appliedBy valueAt stampAt logged tabled raised chainPlace isLive memberAt headOf tailOf chosenBy removed emptyCells numbered emptyStore linkedWrites accepts nextPosition applying taking answersDirect numberIn counterIn committedIn slotObject slotStamp firstSlot secondSlot thirdSlot holdsObject countsAbove isFree holdsAbove freeSlot slotFor markAbove lookedUp nextStamp marking canMark marked isCompleted clearedAt completed newSwitch countedTo countedMarks heldIn noneWait lookAt takesOut leftBy fits afterTaking adding edited packetOf messageOf isUnstamped isOfContext refusing passing overfull directRead stampedWrite deliveredMessage startRefused startAnswer beginOperation delivered copied repeated positionOf isMalformed decided decidedIn answerTo after context-points naming beginContext allOf placeOf sizeOf numbersOf isCount isObject areObjects standsFirst areDifferent emptyAt isNaming rowCell sizeAt freeRow opening marks-points stored several marksAfter marksIn lessOne oneMore marksFor committing leaving released dropping stamping unstampedWrite switchRead normalRead completion reply lost advancing pending pendingAt oldest replacing telling permitting removing givingUp stampFor asking allPermit permits directIn isOpen openPlace openNumbers
+unfolding points allHold allTrue gives lone copies emptyList markedAll switchOfP4 switchOfP7 storeOfP6 readOfP6 sends writeOfP10 storeOfP11 stampOf numberOf counterOf isAbove largerOf noneOpen openCount lastGiven roomToOpen indexOf listOf moves entryCell valueCell stampCell storeCells liveCount orderAt numberAt members rowOf highestOf permittedBy appliedBy valueAt stampAt logged tabled raised memberAt headOf tailOf numbers placeOfNumber isMember isTail tableOf numberInChain headNumber tailNumber chosenBy removed emptyCells numbered emptyStore linkedWrites accepts nextPosition applying taking answersDirect numberIn counterIn committedIn slotObject slotStamp firstSlot secondSlot thirdSlot holdsObject countsAbove isFree holdsAbove freeSlot slotFor markAbove lookedUp nextStamp marking canMark marked isCompleted clearedAt completed newSwitch countedTo countedMarks heldIn noneWait lookAt takesOut leftBy fits afterTaking adding edited packetOf messageOf isUnstamped isOfContext refusing passing overfull directRead stampedWrite deliveredMessage startRefused startAnswer beginOperation delivered copied repeated positionOf isMalformed decided decidedIn answerTo after context-points naming beginContext allOf placeOf sizeOf numbersOf isCount isObject areObjects standsFirst areDifferent emptyAt isNaming rowCell sizeAt freeRow opening marks-points stored several marksAfter marksIn lessOne oneMore marksFor committing leaving released dropping stamping unstampedWrite switchRead normalRead completion reply lost advancing pendingAt oldest handingOn isCopied isJoining copiesMade joinEnded without replacing telling permitting removing givingUp stampFor asking allPermit permits directIn isOpen openPlace openNumbers
 holds = record { points-hold = refl; context-points-hold = refl; marks-points-hold = refl }

@@ -14,8 +14,9 @@ use Rattle.contexts.specs.declared.Context.{Context}
 use Rattle.contexts.specs.declared.Objects.{Objects}
 use Rattle.contexts.specs.{contextOf, areObjects, areDifferent, isCount, isContext, contextAt, freeRow}
 use Rattle.store.specs.{liveCount}
-use Rattle.chain.specs.{isLive, tailOf, allPermit}
-use Rattle.replicas.specs.Replicas.{accepts, pending, answersDirect}
+use Rattle.chain.specs.{placeOf, isMember, isTail, tableOf, allPermit}
+use Rattle.joins.specs.{isFull, isJoining}
+use Rattle.replicas.specs.Replicas.{accepts, pendingAt, answersDirect}
 use Rattle.switch.specs.Numbers.{numberIn, directIn}
 use Rattle.switch.specs.DirtySet.{lookedUp, stampFor}
 use Rattle.waiting.proofs.Laws.{edited-none}
@@ -29,22 +30,22 @@ use Rattle.protocol.specs.declared.Message.{Message}
 use Rattle.protocol.specs.declared.Message.the-variants.{UnstampedWrite, SwitchRead, StampedWrite, DirectRead, NormalRead, Completion, Reply, ContextRead, DirectContext, NormalContext, ContextReply, Unknown}
 use Rattle.protocol.specs.declared.Decision.{Decision}
 use Rattle.protocol.specs.declared.Step.{Step}
-use Rattle.protocol.specs.declared.Step.the-variants.{Start, BeginRead, BeginWrite, Deliver, Lose, Repeat, Advance, Replace, Tell, Remove, GiveUp, BeginContext}
+use Rattle.protocol.specs.declared.Step.the-variants.{Start, BeginRead, BeginWrite, Deliver, Lose, Repeat, Advance, Replace, Tell, Remove, GiveUp, BeginContext, Join, Copy}
 use Rattle.protocol.specs.Answers.{refusalNumber}
 use Rattle.protocol.specs.Messages.{messageOf, isUnstamped, isOfContext}
 use Rattle.protocol.specs.Contexts.{leaving, droppingRow, goesDirectly, contextRead, answersContext, answeringContext, directContext, normalContext, contextReply}
 use Rattle.protocol.specs.Decisions.{Given, Outcome, Switched, Stored, Opened, keeping, changingSwitch, changingStore, changingOpens, noEdit, refusing, dropping, passing, overfull}
 use Rattle.protocol.specs.Delivery.{stamping, unstampedWrite, switchRead, stampedWrite, directRead, normalRead, completion, reply, deliveredMessage}
-use Rattle.protocol.specs.Steps.{Machine, machine, givenBy, outcomeOf, positionOf, isMalformed, decided, decidedIn, beginOperation, beginContext, delivered, lost, copied, repeated, advancing, replacing, telling, removing, givingUp}
+use Rattle.protocol.specs.Steps.{Machine, machine, givenBy, outcomeOf, positionOf, isMalformed, decided, decidedIn, beginOperation, beginContext, delivered, lost, copied, repeated, advancing, replacing, telling, removing, joining, copyingOn, givingUp}
 use Rattle.protocol.specs.Steps.{answerTo, after, startRefused, startAnswer, started, startSwitch, startStore, startOpens, startWaiting, afterStart}
 
 -- the step is a delivery
 abbrev pub IsDeliver : Step → Type 0
 IsDeliver x = (at : ℕ) × (choice : ℕ) × (x ≡ Deliver at choice)
 
--- what a step can answer: done, an operation finished, or a refusal with number 1, 3 to 13, 15 or 16
+-- what a step can answer: done, an operation finished, or a refusal with number 1, 3 to 13 or 15 to 19
 abbrev pub StepNumber : ℕ → Type 0
-StepNumber n = (n ≡ 1) ⊎ ((3 ≤ n) × (n ≤ 13)) ⊎ ((15 ≤ n) × (n ≤ 16))
+StepNumber n = (n ≡ 1) ⊎ ((3 ≤ n) × (n ≤ 13)) ⊎ ((15 ≤ n) × (n ≤ 19))
 
 abbrev pub StepAnswer : Answer → Type 0
 StepAnswer a = (a ≡ Done)
@@ -54,7 +55,7 @@ StepAnswer a = (a ≡ Done)
 
 -- the numbers of a step's refusals, as a test
 abbrev isStepNumber : ℕ → Bool
-isStepNumber n = cond (eqb n 1) true (cond (eqb n 15) true (cond (eqb n 16) true (cond (leb 3 n) (leb n 13) false)))
+isStepNumber n = cond (eqb n 1) true (cond (leb 15 n) (leb n 19) (cond (leb 3 n) (leb n 13) false))
 
 -- what holds of the outcome of a step, by its answer: only a delivery finishes an operation; a refusal has one of those numbers, and leaves all as it
 -- was given
@@ -119,27 +120,28 @@ module _ (g : Given) (x : Step) where
   deliver-sound at choice d (SwitchRead o y) =
       by-test (OfDecision g x) (directIn (g .switch)) (by-test (OfDecision g x) (eqb (lookedUp (g .switch) y) 0) tt tt) tt
   deliver-sound at choice d (StampedWrite r w) =
-      by-test (OfStored g x) (accepts (g .store) r (w .stamp))
-      (by-test (OfStored g x) (eqb r (tailOf (g .store))) (by-test (OfStored g x) (overfull (g .held) 1 2) refl tt) tt) tt
+      by-test (OfStored g x) (isMember (g .store) r)
+      (by-test (OfStored g x) (accepts (g .store) (tableOf (g .store) r) (w .stamp))
+      (by-test (OfStored g x) (isTail (g .store) r) (by-test (OfStored g x) (overfull (g .held) 1 2) refl tt) tt) tt) tt
   deliver-sound at choice d (DirectRead r number t o y) =
-      by-test (OfDecision g x) (isLive (g .store) r) (by-test (OfDecision g x) (answersDirect (g .store) r y number t) tt tt) tt
-  deliver-sound at choice d (NormalRead r o y t) = by-test (OfDecision g x) (isLive (g .store) r) tt tt
+      by-test (OfDecision g x) (isMember (g .store) r) (by-test (OfDecision g x) (answersDirect (g .store) (tableOf (g .store) r) y number t) tt tt) tt
+  deliver-sound at choice d (NormalRead r o y t) = by-test (OfDecision g x) (isMember (g .store) r) (by-test (OfDecision g x) (isTail (g .store) r) tt tt) tt
   deliver-sound at choice d (Completion y t) = tt
   deliver-sound at choice d (Reply o v t f) = by-test (OfOpened g x) (isOpen (g .opens) o) d tt
   deliver-sound at choice d (ContextRead o r) =
       by-test (OfOpened g x) (isContext (contextAt (g .opens) r)) (by-test (OfOpened g x) (goesDirectly (g .switch) (contextAt (g .opens) r)) tt tt) tt
   deliver-sound at choice d (DirectContext q number t o r) =
-      by-test (OfOpened g x) (isLive (g .store) q)
-      (by-test (OfOpened g x) (isContext (contextAt (g .opens) r)) (by-test (OfOpened g x) (answersContext (g .store) q number t (contextAt (g .opens) r)) tt tt) tt) tt
+      by-test (OfOpened g x) (isMember (g .store) q)
+      (by-test (OfOpened g x) (isContext (contextAt (g .opens) r)) (by-test (OfOpened g x) (answersContext (g .store) (tableOf (g .store) q) number t (contextAt (g .opens) r)) tt tt) tt) tt
   deliver-sound at choice d (NormalContext q o r) =
-      by-test (OfOpened g x) (isLive (g .store) q) (by-test (OfOpened g x) (isContext (contextAt (g .opens) r)) tt tt) tt
+      by-test (OfOpened g x) (isMember (g .store) q) (by-test (OfOpened g x) (isContext (contextAt (g .opens) r)) (by-test (OfOpened g x) (isTail (g .store) q) tt tt) tt) tt
   deliver-sound at choice d (ContextReply o r) =
       by-test (OfOpened g x) (isOpen (g .opens) o) (by-test (OfOpened g x) (isCount (contextAt (g .opens) r .count)) d tt) tt
   deliver-sound at choice d Unknown = tt
 
 -- every step, whatever packet stands at its position
 step-sound : (g : Given) (p : Packet) (x : Step) → Sound g x (decided g p x)
-unfolding decided delivered leaving lost copied repeated advancing replacing telling removing givingUp dropping refusing
+unfolding decided delivered leaving lost copied repeated advancing replacing telling removing givingUp joining copyingOn dropping refusing
 step-sound g p (Start n) = refl
 step-sound g p (BeginRead y) = begin-sound g (BeginRead y) false y 0
 step-sound g p (BeginWrite y v) = begin-sound g (BeginWrite y v) true y v
@@ -154,15 +156,17 @@ step-sound g p (Repeat at) =
     (by-test (OfOpened g (Repeat at)) (overfull (g .held) 0 1) refl
     (by-test (OfOpened g (Repeat at)) (isOfContext p) (by-test (OfOpened g (Repeat at)) (ltb (freeRow (g .opens)) limits.contexts) tt refl) tt)))
 step-sound g p (Advance r) =
-    by-test (OfStored g (Advance r)) (isLive (g .store) r)
-    (by-test (OfStored g (Advance r)) (eqb (pending (g .store) r) 0) refl
-    (by-test (OfStored g (Advance r)) (eqb r (tailOf (g .store))) (by-test (OfStored g (Advance r)) (overfull (g .held) 0 2) refl tt) tt)) refl
+    by-test (OfStored g (Advance r)) (isMember (g .store) r)
+    (by-test (OfStored g (Advance r)) (eqb (pendingAt (g .store) (placeOf (g .store) r) (tableOf (g .store) r)) 0) refl
+    (by-test (OfStored g (Advance r)) (isTail (g .store) r) (by-test (OfStored g (Advance r)) (overfull (g .held) 0 2) refl tt) tt)) refl
 step-sound g p (Replace number) = by-test (OfSwitched g (Replace number)) (leb number (numberIn (g .switch))) refl tt
-step-sound g p (Tell r) = by-test (OfStored g (Tell r)) (isLive (g .store) r) tt refl
+step-sound g p (Tell r) = by-test (OfStored g (Tell r)) (isMember (g .store) r) tt refl
 step-sound g p (Remove r) =
-    by-test (OfStored g (Remove r)) (isLive (g .store) r) (by-test (OfStored g (Remove r)) (leb (liveCount (g .store)) 1) refl tt) refl
+    by-test (OfStored g (Remove r)) (isMember (g .store) r) (by-test (OfStored g (Remove r)) (leb (liveCount (g .store)) 1) refl tt) refl
 step-sound g p (GiveUp o) = by-test (OfOpened g (GiveUp o)) (isOpen (g .opens) o) tt refl
 step-sound g p (BeginContext y) = context-sound g (BeginContext y) y
+step-sound g p Join = by-test (OfStored g Join) (isFull (g .store)) refl (by-test (OfStored g Join) (isJoining (g .store)) refl tt)
+step-sound g p Copy = by-test (OfStored g Copy) (isJoining (g .store)) (by-test (OfStored g Copy) (leb limits.replicas (liveCount (g .store))) refl tt) refl
 
 in-sound : (places : ℕ) (g : Given) (p : Packet) (x : Step) → Sound g x (decidedIn places g p x)
 unfolding decidedIn refusing
@@ -176,15 +180,14 @@ passed false h = absurd h
 
 -- the test and the numbers
 step-number : (n : ℕ) → isStepNumber n ≡ true → StepNumber n
-step-number n = go (eqb n 1) refl (eqb n 15) refl (eqb n 16) refl (leb 3 n) refl
+step-number n = go (eqb n 1) refl (leb 15 n) refl (leb 3 n) refl
   where
-    go : (s : Bool) → eqb n 1 ≡ s → (l : Bool) → eqb n 15 ≡ l → (k : Bool) → eqb n 16 ≡ k → (t : Bool) → leb 3 n ≡ t
-        → cond s true (cond l true (cond k true (cond t (leb n 13) false))) ≡ true → StepNumber n
-    go true e l d k c t f h = inl (eqb-true n 1 e)
-    go false e true d k c t f h = inr (inr (omega (arith, eqb-true n 15 d), omega (arith, eqb-true n 15 d)))
-    go false e false d true c t f h = inr (inr (omega (arith, eqb-true n 16 c), omega (arith, eqb-true n 16 c)))
-    go false e false d false c true f h = inr (inl (leb-true 3 n f, leb-true n 13 h))
-    go false e false d false c false f h = absurd (subst T (sym h) tt)
+    go : (s : Bool) → eqb n 1 ≡ s → (l : Bool) → leb 15 n ≡ l → (t : Bool) → leb 3 n ≡ t
+        → cond s true (cond l (leb n 19) (cond t (leb n 13) false)) ≡ true → StepNumber n
+    go true e l d t f h = inl (eqb-true n 1 e)
+    go false e true d t f h = inr (inr (leb-true 15 n d, leb-true n 19 h))
+    go false e false d true f h = inr (inl (leb-true 3 n f, leb-true n 13 h))
+    go false e false d false f h = absurd (subst T (sym h) tt)
 
 -- every step of a machine
 module _ (m : Machine) (x : Step) where

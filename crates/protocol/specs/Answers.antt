@@ -1,7 +1,7 @@
 -- Document 01, 'Turned down': the number of each refusal. Document 02, Req 01: the number of each word that a read's line can end with.
 use Prim.Native.Nat.{ℕ}
 use Rattle.protocol.specs.declared.Refusal.{Refusal}
-use Rattle.protocol.specs.declared.Refusal.the-variants.{Format, Replicas, ObjectNumber, OperationsUsedUp, OpenFull, WaitingFull, NoPacket, UnstampedRepeat, NotLive, NoLinkedWrite, SwitchNumber, LastReplica, NotOpen, InputTooLong, BufferTooShort, SameObject}
+use Rattle.protocol.specs.declared.Refusal.the-variants.{Format, Replicas, ObjectNumber, OperationsUsedUp, OpenFull, WaitingFull, NoPacket, UnstampedRepeat, NotLive, NoLinkedWrite, SwitchNumber, LastReplica, NotOpen, InputTooLong, BufferTooShort, SameObject, ChainFull, JoinUnderWay, NoJoin}
 
 abbrev pub refusalNumber : Refusal → ℕ
 refusalNumber Format = 1
@@ -20,6 +20,9 @@ refusalNumber NotOpen = 13
 refusalNumber InputTooLong = 14
 refusalNumber BufferTooShort = 15
 refusalNumber SameObject = 16
+refusalNumber ChainFull = 17
+refusalNumber JoinUnderWay = 18
+refusalNumber NoJoin = 19
 
 -- Req 01, 'ends with a new field': `-`, `old` and `new`. Freshness is the field's term for how a read's value stands to a pending write
 abbrev pub noFreshness : ℕ

@@ -9,7 +9,7 @@ use Rattle.contexts.specs.declared.Context.{Context}
 use Rattle.contexts.specs.{numbersOf, mapped, isCount, isContext, contextAt, holding, freeing}
 use Rattle.stamp.specs.Stamps.{isAbove}
 use Rattle.store.specs.{valueAt, stampAt, permittedBy}
-use Rattle.chain.specs.{isLive, tailOf, chosenBy}
+use Rattle.chain.specs.{isMember, isTail, tableOf, tailNumber, chosenBy}
 use Rattle.switch.specs.Numbers.{numberIn, committedIn, directIn}
 use Rattle.switch.specs.DirtySet.{lookedUp}
 use Rattle.waiting.specs.declared.Packet.{Packet}
@@ -48,7 +48,7 @@ contextRead w s opens at choice o r =
     cond (isContext (contextAt opens r))
     (cond (goesDirectly w (contextAt opens r))
     (opened (passing at (DirectContext (chosenBy s choice) (numberIn w) (committedIn w) o r)) opens)
-    (opened (passing at (NormalContext (tailOf s) o r)) opens))
+    (opened (passing at (NormalContext (tailNumber s) o r)) opens))
     (droppingRow opens at r)
 
 -- the object's stamp at replica q is not above the one carried
@@ -66,19 +66,21 @@ answeringContext s opens at q o r = opened (passing at (ContextReply o r)) (hold
 -- the direct read, to replica q: as for a single read, dropped if the replica is gone, and otherwise answered or sent on to the tail
 unfoldable pub directContext : List ℕ → List ℕ → ℕ → ℕ → ℕ → ℕ → ℕ → ℕ → Opened
 directContext s opens at q number t o r =
-    cond (isLive s q)
+    cond (isMember s q)
     (cond (isContext (contextAt opens r))
-    (cond (answersContext s q number t (contextAt opens r))
-    (answeringContext s opens at q o r)
-    (opened (passing at (NormalContext (tailOf s) o r)) opens))
+    (cond (answersContext s (tableOf s q) number t (contextAt opens r))
+    (answeringContext s opens at (tableOf s q) o r)
+    (opened (passing at (NormalContext (tailNumber s) o r)) opens))
     (droppingRow opens at r))
     (droppingRow opens at r)
 
--- the normal read, to replica q
+-- the normal read, to replica q; Req 04: sent on where q is a former tail
 unfoldable pub normalContext : List ℕ → List ℕ → ℕ → ℕ → ℕ → ℕ → Opened
 normalContext s opens at q o r =
-    cond (isLive s q)
-    (cond (isContext (contextAt opens r)) (answeringContext s opens at q o r) (droppingRow opens at r))
+    cond (isMember s q)
+    (cond (isContext (contextAt opens r))
+    (cond (isTail s q) (answeringContext s opens at (tableOf s q) o r) (opened (passing at (NormalContext (tailNumber s) o r)) opens))
+    (droppingRow opens at r))
     (droppingRow opens at r)
 
 -- the reply: it finishes the operation with the values, if the operation is open

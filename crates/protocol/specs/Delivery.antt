@@ -7,7 +7,8 @@ use Rattle.operations.specs.{isOpen, closing}
 use Rattle.store.specs.declared.Write.{Write}
 use Rattle.store.specs.{valueAt, stampAt}
 use Rattle.stamp.specs.Stamps.{isAbove}
-use Rattle.chain.specs.{isLive, headOf, tailOf, chosenBy, allPermit}
+use Rattle.chain.specs.{isMember, isTail, tableOf, headNumber, tailNumber, chosenBy, allPermit}
+use Rattle.joins.specs.{handingOn}
 use Rattle.replicas.specs.Replicas.{accepts, taking, answersDirect}
 use Rattle.switch.specs.Numbers.{numberIn, committedIn, directIn}
 use Rattle.switch.specs.DirtySet.{lookedUp, marked, stampFor, completed}
@@ -26,7 +27,7 @@ use Rattle.protocol.specs.Decisions.{deciding, takeOut, takeOutAddTwo, r
 -- a write with the stamp that it got goes to the head; one that got none, (0,0), is dropped
 unfoldable pub stamping : List ℕ → ℕ → ℕ → ℕ → ℕ → ℕ → Decision
 stamping s at o x v stamp =
-    cond (eqb stamp 0) (dropping at) (passing at (StampedWrite (headOf s) (record { operation = o; object = x; value = v; stamp = stamp })))
+    cond (eqb stamp 0) (dropping at) (passing at (StampedWrite (headNumber s) (record { operation = o; object = x; value = v; stamp = stamp })))
 
 -- 'Unstamped write, to the switch. Dropped unless every live replica permits this switch's number. Otherwise the counter rises by one, the object is
 -- marked, and the stamped write goes to the head.'
@@ -42,39 +43,48 @@ switchRead w s at choice o x =
     cond (directIn w)
     (cond (eqb (lookedUp w x) 0)
     (passing at (DirectRead (chosenBy s choice) (numberIn w) (committedIn w) o x))
-    (passing at (NormalRead (tailOf s) o x (lookedUp w x))))
-    (passing at (NormalRead (tailOf s) o x (lookedUp w x)))
+    (passing at (NormalRead (tailNumber s) o x (lookedUp w x))))
+    (passing at (NormalRead (tailNumber s) o x (lookedUp w x)))
 
 -- 'The tail, on applying a write, sends a reply with the written value, then a completion with object and stamp.'
 abbrev pub answering : ℕ → Write → Edit
 answering at w = takeOutAddTwo at (packetOf (Reply (w .operation) (w .value) 0 noFreshness)) (packetOf (Completion (w .object) (w .stamp)))
 
 -- 'Stamped write, to a replica. Dropped if that replica is gone, if the stamp is not above its highest, or if the links hold 64. Otherwise it is applied
--- and put in the link to the next replica. A lone replica acts as tail at the same time.'
+-- and put in the link to the next replica. A lone replica acts as tail at the same time.' Req 04: what the tail applies reaches a newcomer that has its copy of the object
 unfoldable pub stampedWrite : List ℕ → ℕ → ℕ → ℕ → Write → Stored
 stampedWrite s held at r w =
-    cond (accepts s r (w .stamp))
-    (cond (eqb r (tailOf s))
-    (cond (overfull held 1 2) (stored (refusing WaitingFull) s) (stored (deciding (answering at w)) (taking s r w)))
-    (stored (dropping at) (taking s r w)))
+    cond (isMember s r)
+    (cond (accepts s (tableOf s r) (w .stamp))
+    (cond (isTail s r)
+    (cond (overfull held 1 2) (stored (refusing WaitingFull) s) (stored (deciding (answering at w)) (handingOn (taking s (tableOf s r) w) w)))
+    (stored (dropping at) (taking s (tableOf s r) w)))
+    (stored (dropping at) s))
     (stored (dropping at) s)
 
 -- 'Direct read, to a replica. Dropped if gone. Answered with the object's value if the read's switch number is the one this replica permits and the
 -- object's stamp is not above the stamp carried. Otherwise it becomes a normal read to the tail.'
 unfoldable pub directRead : List ℕ → ℕ → ℕ → ℕ → ℕ → ℕ → ℕ → Decision
 directRead s at r number t o x =
-    cond (isLive s r)
-    (cond (answersDirect s r x number t) (passing at (Reply o (valueAt s r x) 0 noFreshness)) (passing at (NormalRead (tailOf s) o x 0)))
+    cond (isMember s r)
+    (cond (answersDirect s (tableOf s r) x number t)
+    (passing at (Reply o (valueAt s (tableOf s r) x) 0 noFreshness))
+    (passing at (NormalRead (tailNumber s) o x 0)))
     (dropping at)
 
 -- Req 01: '`old` if the value's stamp is below the one carried, else `new`'; of a read that carries none, neither
 unfoldable pub freshness : ℕ → ℕ → ℕ
 freshness stamp carried = cond (eqb carried 0) noFreshness (cond (isAbove carried stamp) oldRead newRead)
 
--- 'Normal read. Dropped if the replica is gone, else answered.' Req 01: its reply carries the stamp that it carries
+-- 'Normal read. Dropped if the replica is gone, else answered.' Req 01: its reply carries the stamp that it carries. Req 04: 'A normal read that reaches a former tail is sent
+-- on to the present one'
 unfoldable pub normalRead : List ℕ → ℕ → ℕ → ℕ → ℕ → ℕ → Decision
 normalRead s at r o x carried =
-    cond (isLive s r) (passing at (Reply o (valueAt s r x) carried (freshness (stampAt s r x) carried))) (dropping at)
+    cond (isMember s r)
+    (cond (isTail s r)
+    (passing at (Reply o (valueAt s (tableOf s r) x) carried (freshness (stampAt s (tableOf s r) x) carried)))
+    (passing at (NormalRead (tailNumber s) o x carried)))
+    (dropping at)
 
 -- 'Completion, to the switch. A mark of that object with a stamp not above the completion's is cleared. Last-committed becomes the larger of the two.
 -- Direct reads are on from now.'

@@ -10,21 +10,22 @@ use Rattle.contexts.specs.declared.Objects.{Objects}
 use Rattle.contexts.specs.{contextOf, areObjects, areDifferent, isNaming, contextAt, freeRow, holding}
 use Rattle.store.specs.declared.Write.{Write}
 use Rattle.store.specs.{liveCount}
-use Rattle.chain.specs.{isLive, tailOf, permitting, removed, emptyStore}
-use Rattle.replicas.specs.Replicas.{applying, pending, oldest}
+use Rattle.chain.specs.{placeOf, isMember, isTail, tableOf, permitting, emptyStore}
+use Rattle.replicas.specs.Replicas.{applying, pendingAt, oldest}
+use Rattle.joins.specs.{isFull, isJoining, beginning, copying, handingOn, without}
 use Rattle.switch.specs.Numbers.{numberIn, marksIn}
 use Rattle.switch.specs.DirtySet.{newSwitch}
 use Rattle.waiting.specs.declared.Packet.{Packet}
 use Rattle.waiting.specs.declared.Edit.{Edit}
 use Rattle.waiting.specs.Waiting.{WaitingList, held, lookAt, edited, noneWait}
-use Rattle.protocol.specs.declared.Refusal.the-variants.{Format, Replicas, ObjectNumber, OperationsUsedUp, OpenFull, WaitingFull, NoPacket, UnstampedRepeat, NotLive, NoLinkedWrite, SwitchNumber, LastReplica, NotOpen, BufferTooShort, SameObject}
+use Rattle.protocol.specs.declared.Refusal.the-variants.{Format, Replicas, ObjectNumber, OperationsUsedUp, OpenFull, WaitingFull, NoPacket, UnstampedRepeat, NotLive, NoLinkedWrite, SwitchNumber, LastReplica, NotOpen, BufferTooShort, SameObject, ChainFull, JoinUnderWay, NoJoin}
 use Rattle.protocol.specs.declared.Answer.{Answer}
 use Rattle.protocol.specs.declared.Answer.the-variants.{Done, Refused}
 use Rattle.protocol.specs.declared.Stepped.{Stepped}
 use Rattle.protocol.specs.declared.Message.{Message}
 use Rattle.protocol.specs.declared.Message.the-variants.{UnstampedWrite, SwitchRead, Completion, Reply, ContextRead}
 use Rattle.protocol.specs.declared.Step.{Step}
-use Rattle.protocol.specs.declared.Step.the-variants.{Start, BeginRead, BeginWrite, Deliver, Lose, Repeat, Advance, Replace, Tell, Remove, GiveUp, BeginContext}
+use Rattle.protocol.specs.declared.Step.the-variants.{Start, BeginRead, BeginWrite, Deliver, Lose, Repeat, Advance, Replace, Tell, Remove, GiveUp, BeginContext, Join, Copy}
 use Rattle.protocol.specs.Answers.{noFreshness}
 use Rattle.protocol.specs.Messages.{packetOf, messageOf, isUnstamped, isOfContext, inRow}
 use Rattle.protocol.specs.Decisions.{Given, given, Outcome, Switched, Stored, Opened, switched, stored, opened, keeping, changingSwitch, changingStore, changingOpens}
@@ -138,11 +139,12 @@ sending w = addTwo (packetOf (Reply (w .operation) (w .value) 0 noFreshness)) (p
 -- 'this replica applies the oldest write of its incoming link, and passes it on unless it is the tail'. Order: 9, 10, 6
 unfoldable pub advancing : List ℕ → ℕ → ℕ → Stored
 advancing s held r =
-    cond (isLive s r)
-    (cond (eqb (pending s r) 0) (stored (refusing NoLinkedWrite) s)
-    (cond (eqb r (tailOf s))
-    (cond (overfull held 0 2) (stored (refusing WaitingFull) s) (stored (deciding (sending (oldest s r))) (applying s r (oldest s r))))
-    (stored (deciding noEdit) (applying s r (oldest s r)))))
+    cond (isMember s r)
+    (cond (eqb (pendingAt s (placeOf s r) (tableOf s r)) 0) (stored (refusing NoLinkedWrite) s)
+    (cond (isTail s r)
+    (cond (overfull held 0 2) (stored (refusing WaitingFull) s)
+    (stored (deciding (sending (oldest s (tableOf s r)))) (handingOn (applying s (tableOf s r) (oldest s (tableOf s r))) (oldest s (tableOf s r)))))
+    (stored (deciding noEdit) (applying s (tableOf s r) (oldest s (tableOf s r))))))
     (stored (refusing NotLive) s)
 
 -- 'replace the switch by this number'; 11 if it is not above the present one
@@ -151,12 +153,24 @@ replacing w number = cond (leb number (numberIn w)) (switched (refusing SwitchNu
 
 -- 'tell this replica to permit the present switch'
 unfoldable pub telling : List ℕ → List ℕ → ℕ → Stored
-telling w s r = cond (isLive s r) (stored (deciding noEdit) (permitting s r (numberIn w))) (stored (refusing NotLive) s)
+telling w s r = cond (isMember s r) (stored (deciding noEdit) (permitting s (tableOf s r) (numberIn w))) (stored (refusing NotLive) s)
 
 -- 'remove this replica'. Order: 9, 12
 unfoldable pub removing : List ℕ → ℕ → Stored
 removing s r =
-    cond (isLive s r) (cond (leb (liveCount s) 1) (stored (refusing LastReplica) s) (stored (deciding noEdit) (removed s r))) (stored (refusing NotLive) s)
+    cond (isMember s r) (cond (leb (liveCount s) 1) (stored (refusing LastReplica) s) (stored (deciding noEdit) (without s r))) (stored (refusing NotLive) s)
+
+-- Req 04, tag 12: 'a join'. Order: 17, 18
+unfoldable pub joining : List ℕ → Stored
+joining s =
+    cond (isFull s) (stored (refusing ChainFull) s) (cond (isJoining s) (stored (refusing JoinUnderWay) s) (stored (deciding noEdit) (beginning s)))
+
+-- Req 04, tag 13: a copy to the newcomer; 19 if none joins. In a state that no run reaches eight may be live while one joins: 17
+unfoldable pub copyingOn : List ℕ → Stored
+copyingOn s =
+    cond (isJoining s)
+    (cond (leb limits.replicas (liveCount s)) (stored (refusing ChainFull) s) (stored (deciding noEdit) (copying s)))
+    (stored (refusing NoJoin) s)
 
 -- 'give up this operation; it stays unfinished for good'
 unfoldable pub givingUp : List ℕ → ℕ → Opened
@@ -178,6 +192,8 @@ positionOf (Tell r) = 0
 positionOf (Remove r) = 0
 positionOf (GiveUp o) = 0
 positionOf (BeginContext x) = 0
+positionOf Join = 0
+positionOf Copy = 0
 
 -- the decision of a step; p is the packet at its position. A start that comes as a step is refused
 unfoldable pub decided : Given → Packet → Step → Outcome
@@ -193,6 +209,8 @@ decided g p (Tell r) = changingStore g (telling (g .switch) (g .store) r)
 decided g p (Remove r) = changingStore g (removing (g .store) r)
 decided g p (GiveUp o) = changingOpens g (givingUp (g .opens) o)
 decided g p (BeginContext x) = changingOpens g (beginContext (g .opens) (g .held) x)
+decided g p Join = changingStore g (joining (g .store))
+decided g p Copy = changingStore g (copyingOn (g .store))
 
 -- a step that is none, or one with another number of objects than 2 to 8: 1, before anything else
 unfoldable pub isMalformed : Step → Bool
@@ -208,6 +226,8 @@ isMalformed (Tell r) = false
 isMalformed (Remove r) = false
 isMalformed (GiveUp o) = false
 isMalformed (BeginContext x) = not (isNaming x)
+isMalformed Join = false
+isMalformed Copy = false
 
 -- then 15, where fewer than 64 places are lent for the packets; then the step itself
 unfoldable pub decidedIn : ℕ → Given → Packet → Step → Outcome

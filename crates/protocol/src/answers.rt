@@ -32,5 +32,8 @@ pub fn refusal_number(r: Refusal) -> u8
         Refusal::InputTooLong => 14,
         Refusal::BufferTooShort => 15,
         Refusal::SameObject => 16,
+        Refusal::ChainFull => 17,
+        Refusal::JoinUnderWay => 18,
+        Refusal::NoJoin => 19,
     }
 }

@@ -28,6 +28,8 @@ pub enum Step {
     Remove(u8),
     GiveUp(u16),
     BeginContext(Objects),
+    Join,
+    Copy,
 }
 
 // Document 01, 'Turned down': a refusal for each row of the table.
@@ -48,6 +50,9 @@ pub enum Refusal {
     InputTooLong,
     BufferTooShort,
     SameObject,
+    ChainFull,
+    JoinUnderWay,
+    NoJoin,
 }
 
 // A step was done; or done, and it finished an operation with a value and what a read says of a pending write, or a read of a whole context with its values; or refused.
@@ -81,7 +86,7 @@ pub struct Decision {
     pub edit: Edit,
 }
 
-// What a step answers, how many packets then wait, and how many marks count.
+// What a step answers, how many packets then wait, and the stored number of counting marks.
 pub struct Stepped {
     pub answer: Answer,
     pub count: usize,

@@ -79,6 +79,8 @@ fn step_of(kind: usize, content: &[u8]) -> Step
         8 => Step::Tell(byte_at(content, 0)),
         9 => Step::Remove(byte_at(content, 0)),
         10 => Step::GiveUp(two_at(content, 0)),
+        12 => Step::Join,
+        13 => Step::Copy,
         _ => Step::BeginContext(objects_in(content)),
     }
 }

@@ -12,7 +12,7 @@ use denote.Enum.Declared.{tagOf as variantOf}
 use types.Run.{OneOf, miss}
 use Rattle.protocol.proofs.Step as step
 use Rattle.protocol.specs.declared.Step.{Step}
-use Rattle.protocol.specs.declared.Step.the-variants.{Start, BeginRead, BeginWrite, Deliver, Lose, Repeat, Advance, Replace, Tell, Remove, GiveUp, BeginContext}
+use Rattle.protocol.specs.declared.Step.the-variants.{Start, BeginRead, BeginWrite, Deliver, Lose, Repeat, Advance, Replace, Tell, Remove, GiveUp, BeginContext, Join, Copy}
 use Rattle.records.specs.Records.{byteAt, twoAt, fourAt, twoBytes, fourBytes, noStep, kindOfTag, tagOf, contentLength, isLength, kindOf, contentOf, headerOf, recordOf, stepOf, isWritable, AllBytes, InRange}
 use Rattle.records.proofs.Bytes.{both, two-read, four-read, two-written, four-written, all-bytes}
 use Rattle.records.proofs.Contexts.{length-within, objects-length, objects-read, objects-written, objects-naming, objects-kept}
@@ -39,38 +39,42 @@ tested zero f e k h = absurd (omega arith)
 tested (suc n) f e zero h = both (f 0) (all n (λ k. f (suc k))) e .0
 tested (suc n) f e (suc k) h = tested n (λ i. f (suc i)) (both (f 0) (all n (λ k. f (suc k))) e .1) k (omega arith)
 
+-- a kind in the table of lengths: every one but a read of a whole context
+abbrev InTable : ℕ → Type 0
+InTable k = (k < 14) × (k ≡ 11 → ⊥)
+
 -- a claim of the kinds in the table of lengths, and of the one beside it
-by-kind : (P : ℕ → Type 0) → ((k : ℕ) → k < 11 → P k) → P 11 → (k : ℕ) → k < 12 → P k
+by-kind : (P : ℕ → Type 0) → ((k : ℕ) → InTable k → P k) → P 11 → (k : ℕ) → k < 14 → P k
 by-kind P table context k h = go (eqb k 11) refl
   where
     go : (t : Bool) → eqb k 11 ≡ t → P k
     go true e = subst P (sym (eqb-true k 11 e)) context
-    go false e = table k (omega (arith, eqb-false k 11 e))
+    go false e = table k (h, eqb-false k 11 e)
 
 -- ---- lengths
 
 -- a kind in the table has the length that stands there
-table-length : (k : ℕ) → k < 11 → (n : ℕ) → isLength k n ≡ true → n ≡ contentLength k
+table-length : (k : ℕ) → InTable k → (n : ℕ) → isLength k n ≡ true → n ≡ contentLength k
 unfolding isLength
-table-length k h n e = eqb-true n (contentLength k) (rw (ne-eqb k 11 (λ q. omega arith)) at e)
+table-length k h n e = eqb-true n (contentLength k) (rw (ne-eqb k 11 (h .1)) at e)
 
-table-short : (k : ℕ) → k < 11 → (1 ≤ contentLength k) × (contentLength k ≤ 16)
+table-short : (k : ℕ) → InTable k → contentLength k ≤ 16
 unfolding contentLength
-table-short k h = (leb-true _ _ (tested 11 (λ k. leb 1 (contentLength k)) refl k h), leb-true _ _ (tested 11 (λ k. leb (contentLength k) 16) refl k h))
+table-short k h = leb-true _ _ (tested 14 (λ k. leb (contentLength k) 16) refl k (h .0))
 
--- no content is empty, and none is longer than eight objects
-length-bounds : (k : ℕ) → k < 12 → (n : ℕ) → isLength k n ≡ true → (1 ≤ n) × (n ≤ 16)
+-- no content is longer than eight objects
+length-bounds : (k : ℕ) → k < 14 → (n : ℕ) → isLength k n ≡ true → n ≤ 16
 unfolding isLength
 length-bounds =
-    by-kind (λ k. (n : ℕ) → isLength k n ≡ true → (1 ≤ n) × (n ≤ 16))
-    (λ k h n e. let q = table-length k h n e in let s = table-short k h in (omega arith, omega arith))
-    (λ n e. let w = length-within n e in (omega arith, w .1))
+    by-kind (λ k. (n : ℕ) → isLength k n ≡ true → n ≤ 16)
+    (λ k h n e. let q = table-length k h n e in let s = table-short k h in omega arith)
+    (λ n e. length-within n e .1)
 
 -- ---- writing, then reading
 
 -- the row of the table that a step has: the content has a length of its kind, and is read as the step
 abbrev Row : Step → Type 0
-Row s = (kindOf s < 12) × (isLength (kindOf s) (length (contentOf s)) ≡ true) × (stepOf (kindOf s) (contentOf s) ≡ s)
+Row s = (kindOf s < 14) × (isLength (kindOf s) (length (contentOf s)) ≡ true) × (stepOf (kindOf s) (contentOf s) ≡ s)
 
 pub row : (s : Step) → isWritable s ≡ true → Row s
 unfolding twoBytes fourBytes twoAt fourAt contentLength isLength stepOf
@@ -86,6 +90,8 @@ row (Tell replica) w = (lit< tt, refl, refl)
 row (Remove replica) w = (lit< tt, refl, refl)
 row (GiveUp operation) w = (lit< tt, refl, ap GiveUp (two-read operation))
 row (BeginContext x) w = (lit< tt, objects-length x w, ap BeginContext (objects-read x w))
+row Join w = (lit< tt, refl, refl)
+row Copy w = (lit< tt, refl, refl)
 
 -- ---- reading, then writing
 
@@ -115,38 +121,42 @@ two-and-four c h b =
 abbrev TableRead : ℕ → Type 0
 TableRead k = (c : List ℕ) → length c ≡ contentLength k → AllBytes c → (contentOf (stepOf k c) ≡ c) × InRange (stepOf k c)
 
-table-read : (k : ℕ) → k < 11 → TableRead k
+no-bytes : (c : List ℕ) → length c ≡ 0 → AllBytes c → ([] ≡ c) × Unit {0}
+no-bytes c h b = (all-bytes c 0 h, tt)
+
+table-read : (k : ℕ) → InTable k → TableRead k
 unfolding contentLength stepOf
-table-read =
-    each 11 TableRead
-    (one-byte, (two-bytes, (two-and-four, (two-and-one, (two-bytes, (two-bytes, (one-byte, (two-bytes, (one-byte, (one-byte, (two-bytes, tt)))))))))))
+table-read k h =
+    each 14 (λ k. (k ≡ 11 → ⊥) → TableRead k)
+    ((λ d. one-byte), ((λ d. two-bytes), ((λ d. two-and-four), ((λ d. two-and-one), ((λ d. two-bytes), ((λ d. two-bytes), ((λ d. one-byte), ((λ d. two-bytes), ((λ d. one-byte), ((λ d. one-byte), ((λ d. two-bytes), ((λ d. absurd (d refl)), ((λ d. no-bytes), ((λ d. no-bytes), tt))))))))))))))
+    k (h .0) (h .1)
 
 -- the same for every kind
 abbrev ReadAs : ℕ → Type 0
 ReadAs k = (c : List ℕ) → isLength k (length c) ≡ true → AllBytes c → (contentOf (stepOf k c) ≡ c) × InRange (stepOf k c)
 
-pub read-as : (k : ℕ) → k < 12 → ReadAs k
+pub read-as : (k : ℕ) → k < 14 → ReadAs k
 unfolding isLength stepOf
 read-as = by-kind ReadAs (λ k h c e. table-read k h c (table-length k h (length c) e)) objects-written
 
-pub kind-read : (k : ℕ) → k < 12 → (c : List ℕ) → kindOf (stepOf k c) ≡ k
+pub kind-read : (k : ℕ) → k < 14 → (c : List ℕ) → kindOf (stepOf k c) ≡ k
 unfolding stepOf
-kind-read k h c = eqb-true _ _ (tested 12 (λ k. eqb (kindOf (stepOf k c)) k) refl k h)
+kind-read k h c = eqb-true _ _ (tested 14 (λ k. eqb (kindOf (stepOf k c)) k) refl k h)
 
 -- whatever the bytes are, the step can be written, and has as many
-pub writable-read : (k : ℕ) → k < 12 → (c : List ℕ) → isLength k (length c) ≡ true → isWritable (stepOf k c) ≡ true
+pub writable-read : (k : ℕ) → k < 14 → (c : List ℕ) → isLength k (length c) ≡ true → isWritable (stepOf k c) ≡ true
 unfolding isLength stepOf
 writable-read =
     by-kind (λ k. (c : List ℕ) → isLength k (length c) ≡ true → isWritable (stepOf k c) ≡ true)
-    (λ k h c e. tested 11 (λ k. isWritable (stepOf k c)) refl k h)
+    (λ k h c e. rw (ne-eqb k 11 (h .1)) at (tested 14 (λ k. cond (eqb k 11) true (isWritable (stepOf k c))) refl k (h .0)))
     objects-naming
 
-pub size-read : (k : ℕ) → k < 12 → (c : List ℕ) → isLength k (length c) ≡ true → length (contentOf (stepOf k c)) ≡ length c
+pub size-read : (k : ℕ) → k < 14 → (c : List ℕ) → isLength k (length c) ≡ true → length (contentOf (stepOf k c)) ≡ length c
 unfolding isLength stepOf
 size-read =
     by-kind (λ k. (c : List ℕ) → isLength k (length c) ≡ true → length (contentOf (stepOf k c)) ≡ length c)
     (λ k h c e.
-    let below : k < 12 = omega arith in
+    let below : k < 14 = h .0 in
     let s : Step = stepOf k c in
     let size = row s (writable-read k below c e) .1 in
     table-length k h (length (contentOf s)) (ap (λ (i : ℕ). isLength i (length (contentOf s))) (sym (kind-read k below c)) ∙ size) ∙
@@ -156,18 +166,18 @@ size-read =
 -- ---- tags
 
 -- the tag of a kind names it
-pub tag-known : (k : ℕ) → k < 12 → kindOfTag (tagOf k) ≡ k
+pub tag-known : (k : ℕ) → k < 14 → kindOfTag (tagOf k) ≡ k
 unfolding kindOfTag tagOf
-tag-known k h = eqb-true _ _ (tested 12 (λ k. eqb (kindOfTag (tagOf k)) k) refl k h)
+tag-known k h = eqb-true _ _ (tested 14 (λ k. eqb (kindOfTag (tagOf k)) k) refl k h)
 
 -- a tag that names a step is the tag of that step's kind
-pub tag-back : (t : ℕ) → (kindOfTag t ≡ noStep → ⊥) → (kindOfTag t < 12) × (tagOf (kindOfTag t) ≡ t)
+pub tag-back : (t : ℕ) → (kindOfTag t ≡ noStep → ⊥) → (kindOfTag t < 14) × (tagOf (kindOfTag t) ≡ t)
 unfolding kindOfTag tagOf
-tag-back t known = go (eqb t 32) (leb 1 t) (leb t 11) refl refl refl
+tag-back t known = go (eqb t 32) (leb 1 t) (leb t 13) refl refl refl
   where
-    go : (a b c : Bool) → eqb t 32 ≡ a → leb 1 t ≡ b → leb t 11 ≡ c → (kindOfTag t < 12) × (tagOf (kindOfTag t) ≡ t)
+    go : (a b c : Bool) → eqb t 32 ≡ a → leb 1 t ≡ b → leb t 13 ≡ c → (kindOfTag t < 14) × (tagOf (kindOfTag t) ≡ t)
     go true b c p q r = (rw p (lit< tt), rw p (sym (eqb-true t 32 p)))
-    go false true true p q r = (rw (p, q, r) (omega (arith, leb-true t 11 r)), simp (p, q, r))
+    go false true true p q r = (rw (p, q, r) (omega (arith, leb-true t 13 r)), simp (p, q, r))
     go false true false p q r = absurd (known (simp (p, q, r)))
     go false false c p q r = absurd (known (simp (p, q)))
 
@@ -177,19 +187,19 @@ pub record-size : (s : Step) → length (recordOf s) ≡ 3 + length (contentOf s
 unfolding recordOf headerOf twoBytes
 record-size s = omega arith
 
-content-bounds : (s : Step) → isWritable s ≡ true → (1 ≤ length (contentOf s)) × (length (contentOf s) ≤ 16)
+content-bounds : (s : Step) → isWritable s ≡ true → length (contentOf s) ≤ 16
 content-bounds s w = let t = row s w in length-bounds (kindOf s) (t .0) (length (contentOf s)) (t .1)
 
 pub record-short : (s : Step) → isWritable s ≡ true → length (recordOf s) ≤ 19
 record-short s w = let b = content-bounds s w in omega (arith, record-size s)
 
-pub record-long : (s : Step) → isWritable s ≡ true → 4 ≤ length (recordOf s)
-record-long s w = let b = content-bounds s w in omega (arith, record-size s)
+pub record-long : (s : Step) → 3 ≤ length (recordOf s)
+record-long s = omega (arith, record-size s)
 
 -- ---- the variants in the table of lengths: every step but a read of a whole context
 
 abbrev variants : List ℕ
-variants = 0 ∷ 1 ∷ 2 ∷ 3 ∷ 4 ∷ 5 ∷ 6 ∷ 7 ∷ 8 ∷ 9 ∷ 10 ∷ []
+variants = 0 ∷ 1 ∷ 2 ∷ 3 ∷ 4 ∷ 5 ∷ 6 ∷ 7 ∷ 8 ∷ 9 ∷ 10 ∷ 12 ∷ 13 ∷ []
 
 pub in-table : (s : Step) → OneOf variants (variantOf step.the-type s) → (isWritable s ≡ true) × (length (contentOf s) ≡ contentLength (kindOf s))
 unfolding twoBytes fourBytes contentLength
@@ -205,3 +215,5 @@ in-table (Tell replica) i = (refl, refl)
 in-table (Remove replica) i = (refl, refl)
 in-table (GiveUp operation) i = (refl, refl)
 in-table (BeginContext x) i = absurd (miss variants 11 tt i)
+in-table Join i = (refl, refl)
+in-table Copy i = (refl, refl)

@@ -9,7 +9,7 @@ use Rattle.contexts.specs.{isCount, isNaming}
 use Rattle.protocol.specs.Answers.{refusalNumber}
 use Rattle.protocol.specs.declared.Refusal.{Refusal}
 use Rattle.protocol.specs.declared.Step.{Step}
-use Rattle.protocol.specs.declared.Step.the-variants.{Start, BeginRead, BeginWrite, Deliver, Lose, Repeat, Advance, Replace, Tell, Remove, GiveUp, BeginContext}
+use Rattle.protocol.specs.declared.Step.the-variants.{Start, BeginRead, BeginWrite, Deliver, Lose, Repeat, Advance, Replace, Tell, Remove, GiveUp, BeginContext, Join, Copy}
 use Rattle.records.specs.declared.Found.{Found}
 use Rattle.records.specs.declared.Next.{Next}
 use Rattle.records.specs.declared.Written.{Written}
@@ -34,7 +34,7 @@ twoAt l i = byteAt l i * 256 + byteAt l (i + 1)
 unfoldable pub fourAt : List ℕ → ℕ → ℕ
 fourAt l i = twoAt l i * 65536 + twoAt l (i + 2)
 
--- ---- the kinds of step: 0 is the start, and 1 to 11 have their tags' numbers
+-- ---- the kinds of step: 0 is the start, and 1 to 13 have their tags' numbers
 
 -- Req 02: a read of a whole context
 abbrev pub contextKind : ℕ
@@ -42,19 +42,19 @@ contextKind = 11
 
 -- stands for no step
 abbrev pub noStep : ℕ
-noStep = 12
+noStep = 14
 
 -- the column 'Tag', read: a tag that is not in it is unknown
 unfoldable pub kindOfTag : ℕ → ℕ
-kindOfTag t = cond (eqb t 32) 0 (cond (leb 1 t) (cond (leb t 11) t noStep) noStep)
+kindOfTag t = cond (eqb t 32) 0 (cond (leb 1 t) (cond (leb t 13) t noStep) noStep)
 
 -- the column 'Tag', written
 unfoldable pub tagOf : ℕ → ℕ
-tagOf k = cond (leb 1 k) (cond (leb k 11) k 32) 32
+tagOf k = cond (leb 1 k) (cond (leb k 13) k 32) 32
 
--- the column 'Length'
+-- the column 'Length'; that of a read of a whole context stands below, and Req 04's two have none
 abbrev pub lengths : List ℕ
-lengths = 1 ∷ 2 ∷ 6 ∷ 3 ∷ 2 ∷ 2 ∷ 1 ∷ 2 ∷ 1 ∷ 1 ∷ 2 ∷ []
+lengths = 1 ∷ 2 ∷ 6 ∷ 3 ∷ 2 ∷ 2 ∷ 1 ∷ 2 ∷ 1 ∷ 1 ∷ 2 ∷ 0 ∷ 0 ∷ 0 ∷ []
 
 unfoldable pub contentLength : ℕ → ℕ
 contentLength k = getD lengths k 0
@@ -81,6 +81,8 @@ kindOf (Tell replica) = 8
 kindOf (Remove replica) = 9
 kindOf (GiveUp operation) = 10
 kindOf (BeginContext objects) = contextKind
+kindOf Join = 12
+kindOf Copy = 13
 
 -- ---- a step as bytes
 
@@ -108,6 +110,8 @@ contentOf (Tell replica) = replica ∷ []
 contentOf (Remove replica) = replica ∷ []
 contentOf (GiveUp operation) = twoBytes operation
 contentOf (BeginContext x) = objectBytes x
+contentOf Join = []
+contentOf Copy = []
 
 -- 'a one-byte tag, a two-byte length'
 unfoldable pub headerOf : ℕ → ℕ → List ℕ
@@ -146,7 +150,8 @@ stepOf k c =
     (cond (eqb k 7) (Replace (twoAt c 0))
     (cond (eqb k 8) (Tell (byteAt c 0))
     (cond (eqb k 9) (Remove (byteAt c 0))
-    (cond (eqb k 10) (GiveUp (twoAt c 0)) (BeginContext (objectsIn c))))))))))))
+    (cond (eqb k 10) (GiveUp (twoAt c 0))
+    (cond (eqb k 12) Join (cond (eqb k 13) Copy (BeginContext (objectsIn c))))))))))))))
 
 -- the record of a kind whose tag is at the position; refusal 1: 'wrong length, input ends early'
 unfoldable pub recordOfKind : ℕ → List ℕ → ℕ → Found
@@ -197,6 +202,8 @@ isWritable (Tell replica) = true
 isWritable (Remove replica) = true
 isWritable (GiveUp operation) = true
 isWritable (BeginContext x) = isNaming x
+isWritable Join = true
+isWritable Copy = true
 
 -- the record has room in the buffer at the position
 unfoldable pub hasRoom : List ℕ → ℕ → Step → Bool
@@ -244,3 +251,5 @@ InRange (Remove replica) = replica < 256
 InRange (GiveUp operation) = operation < 65536
 InRange (BeginContext x) =
     (x .first < 65536) × (x .second < 65536) × (x .third < 65536) × (x .fourth < 65536) × (x .fifth < 65536) × (x .sixth < 65536) × (x .seventh < 65536) × (x .eighth < 65536)
+InRange Join = Unit {0}
+InRange Copy = Unit {0}

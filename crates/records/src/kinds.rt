@@ -1,19 +1,19 @@
-// The table of document 01, 'Steps and their records', by kinds of step: 0 is the start, and 1 to 11 have their tags' numbers.
+// The table of document 01, 'Steps and their records', by kinds of step: 0 is the start, and 1 to 13 have their tags' numbers.
 ghost use mathlib.Core.Path.{_≡_};
 ghost use Rattle.records.specs.Records.{kindOfTag, tagOf, contentLength, isContextLength, isLength, kindOf};
 use protocol::Step;
 
-// The kinds whose content has one length.
-const KINDS: usize = 11;
+// The kinds of step.
+const KINDS: usize = 14;
 
 // Req 02: a read of a whole context.
 pub const CONTEXT_KIND: usize = 11;
 
 // Stands for no step.
-pub const NO_STEP: usize = 12;
+pub const NO_STEP: usize = 14;
 
-// The length of the content for each of the first kinds of step, for reader and writer.
-const LENGTHS: [u16; KINDS] = [1, 2, 6, 3, 2, 2, 1, 2, 1, 1, 2];
+// The length of the content for each kind of step, for reader and writer; a read of a whole context has a rule of its own.
+const LENGTHS: [u16; KINDS] = [1, 2, 6, 3, 2, 2, 1, 2, 1, 1, 2, 0, 0, 0];
 
 pub fn content_length(kind: usize) -> u16
     ensures { λ r. ⌜ r ≡ contentLength kind ⌝ }
@@ -48,7 +48,7 @@ pub fn kind_of_tag(tag: u8) -> usize
 {
     match tag {
         32 => 0,
-        1..=11 => tag as usize,
+        1..=13 => tag as usize,
         _ => NO_STEP,
     }
 }
@@ -58,7 +58,7 @@ pub fn tag_of(kind: usize) -> u8
     ensures { λ r. ⌜ r ≡ tagOf kind ⌝ }
 {
     match kind {
-        1..=11 => kind as u8,
+        1..=13 => kind as u8,
         _ => 32,
     }
 }
@@ -79,5 +79,7 @@ pub fn kind_of(step: Step) -> usize
         Step::Remove(_) => 9,
         Step::GiveUp(_) => 10,
         Step::BeginContext(_) => CONTEXT_KIND,
+        Step::Join => 12,
+        Step::Copy => 13,
     }
 }

@@ -121,6 +121,8 @@ fn record_of(step: Step) -> [u8; LONGEST]
         Step::Remove(replica) => one_byte(kind, replica),
         Step::GiveUp(operation) => two_bytes(kind, operation),
         Step::BeginContext(x) => objects(x),
+        Step::Join => header(kind, 0),
+        Step::Copy => header(kind, 0),
     }
 }
 

@@ -1,6 +1,8 @@
 // 'What delivery does', of packets to a replica, and of replies.
 ghost use mathlib.Core.Path.{_≡_};
 ghost use Rattle.store.specs.{stampAt};
+ghost use Rattle.replicas.specs.Replicas.{taking};
+ghost use Rattle.joins.specs.{handingOn};
 ghost use Rattle.protocol.specs.Delivery.{answering, stampedWrite, directRead, freshness, normalRead, reply};
 use limits::Freshness;
 use limits::Number;
@@ -8,6 +10,7 @@ use limits::Object;
 use limits::Operation;
 use limits::Replica;
 use limits::Stamp;
+use limits::Table;
 use limits::Value;
 use protocol::Answer;
 use protocol::Decision;
@@ -30,6 +33,14 @@ fn answers(at: usize, w: Write) -> Edit
     )
 }
 
+// The tail takes a write, and a newcomer that has its copy of the object gets it too.
+fn take_at_tail(store: &mut [u32; store::CELLS], t: Table, w: Write)
+    ensures { λ _. ⌜ now (store .exit) ≡ handingOn (taking (now (store .entry)) t w) w ⌝ }
+{
+    replicas::take(&mut *store, t, w);
+    joins::hand_on(&mut *store, w);
+}
+
 pub fn stamped_write(
     store: &mut [u32; store::CELLS],
     held: usize,
@@ -40,17 +51,23 @@ pub fn stamped_write(
     ensures { λ d. ⌜ (d ≡ stampedWrite (now (store .entry)) held at r w .decision)
         × (now (store .exit) ≡ stampedWrite (now (store .entry)) held at r w .store) ⌝ }
 {
-    if !replicas::accepts(store, r, w.stamp) {
+    let n = chain::count(store);
+    let place = chain::place(store, r);
+    if n <= place {
         return decisions::drop_packet(at);
     }
-    if r != chain::tail(store) {
-        replicas::take(&mut *store, r, w);
+    let t = chain::member(store, place);
+    if !replicas::accepts(store, t, w.stamp) {
+        return decisions::drop_packet(at);
+    }
+    if place + 1 != n {
+        replicas::take(&mut *store, t, w);
         return decisions::drop_packet(at);
     }
     if decisions::is_overfull(held, 1, 2) {
         return decisions::refuse(Refusal::WaitingFull);
     }
-    replicas::take(&mut *store, r, w);
+    take_at_tail(&mut *store, t, w);
     decisions::done(answers(at, w))
 }
 
@@ -65,14 +82,17 @@ pub fn direct_read(
 ) -> Decision
     ensures { λ d. ⌜ d ≡ directRead (now (store .entry)) at r number t o x ⌝ }
 {
-    if !chain::is_live(store, r) {
+    let n = chain::count(store);
+    let place = chain::place(store, r);
+    if n <= place {
         return decisions::drop_packet(at);
     }
-    if replicas::answers(store, r, x, number, t) {
-        let v = store::read_value(store, r, x);
+    let q = chain::member(store, place);
+    if replicas::answers(store, q, x, number, t) {
+        let v = store::read_value(store, q, x);
         return decisions::pass_on(at, Message::Reply(o, v, 0, NONE));
     }
-    decisions::pass_on(at, Message::NormalRead(chain::tail(store), o, x, 0))
+    decisions::pass_on(at, Message::NormalRead(chain::tail_number(store), o, x, 0))
 }
 
 // What a read that carries the stamp of a pending write says of it, from the stamp of the value that it is answered with.
@@ -89,7 +109,7 @@ fn compare(stamp: Stamp, carried: Stamp) -> Freshness
 }
 
 // The stamp of the value that replica r answers with: that of the object in its own table.
-fn value_stamp(store: &[u32; store::CELLS], r: Replica, x: Object) -> Stamp
+fn value_stamp(store: &[u32; store::CELLS], r: Table, x: Object) -> Stamp
     ensures { λ t. ⌜ t ≡ stampAt (now (store .entry)) r x ⌝ }
 {
     store::read_stamp(store, r, x)
@@ -105,11 +125,20 @@ pub fn normal_read(
 ) -> Decision
     ensures { λ d. ⌜ d ≡ normalRead (now (store .entry)) at r o x carried ⌝ }
 {
-    if !chain::is_live(store, r) {
+    let n = chain::count(store);
+    let place = chain::place(store, r);
+    if n <= place {
         return decisions::drop_packet(at);
     }
-    let v = store::read_value(store, r, x);
-    let f = compare(value_stamp(store, r, x), carried);
+    if place + 1 != n {
+        return decisions::pass_on(
+            at,
+            Message::NormalRead(chain::tail_number(store), o, x, carried),
+        );
+    }
+    let t = chain::member(store, place);
+    let v = store::read_value(store, t, x);
+    let f = compare(value_stamp(store, t, x), carried);
     decisions::pass_on(at, Message::Reply(o, v, carried, f))
 }
 

@@ -1,38 +1,91 @@
-// What a replica holds.
+// What a replica holds, and which replicas there are.
 ghost use mathlib.Core.Path.{_≡_};
-ghost use Rattle.replica_values.specs.{isCell, valueOf, stampIn};
+ghost use Rattle.store.specs.{liveCount};
+ghost use Rattle.replica_values.specs.{tableFor, valueOf, stampIn, newcomerOf, copiesOf, chainOf};
 use limits::OBJECTS;
-use limits::REPLICAS;
+use limits::Replica;
+use limits::Table;
 use store::CELLS;
 
-fn is_cell(replica: u8, object: u32) -> bool
-    ensures { λ r. ⌜ r ≡ isCell replica object ⌝ }
-{
-    if replica < 1 {
-        return false;
-    }
-    if REPLICAS < replica as usize {
-        return false;
-    }
-    (object as usize) < OBJECTS
-}
+// How many numbers tell the chain.
+pub const CHAIN: usize = 10;
 
-// The value of an object at a replica, removed or not: 0 where there is no such replica or object.
-pub fn value(store: &[u32; CELLS], replica: u8, object: u32) -> u32
-    ensures { λ r. ⌜ r ≡ valueOf (now (store .entry)) replica object ⌝ }
+// The table that has the replica's value of an object, or 0.
+fn table(store: &[u32; CELLS], replica: Replica, object: u32) -> Table
+    ensures { λ r. ⌜ r ≡ tableFor (now (store .entry)) replica object ⌝ }
 {
-    if is_cell(replica, object) {
-        return store::read_value(store, replica, object);
+    if OBJECTS <= (object as usize) {
+        return 0;
+    }
+    let place = chain::place(store, replica);
+    if place < chain::count(store) {
+        return chain::member(store, place);
+    }
+    if !joins::is_newcomer(store, replica) {
+        return 0;
+    }
+    if joins::is_copied(store, object) {
+        return joins::newcomer(store);
     }
     0
+}
+
+// The value of an object at a live or joining replica; 0 where there is no such replica or object, or no copy of it yet.
+pub fn value(store: &[u32; CELLS], replica: Replica, object: u32) -> u32
+    ensures { λ r. ⌜ r ≡ valueOf (now (store .entry)) replica object ⌝ }
+{
+    let t = table(store, replica, object);
+    if t == 0 {
+        return 0;
+    }
+    store::read_value(store, t, object)
 }
 
 // Its stamp: the switch number times 65,536, and the counter.
-pub fn stamp(store: &[u32; CELLS], replica: u8, object: u32) -> u32
+pub fn stamp(store: &[u32; CELLS], replica: Replica, object: u32) -> u32
     ensures { λ r. ⌜ r ≡ stampIn (now (store .entry)) replica object ⌝ }
 {
-    if is_cell(replica, object) {
-        return store::read_stamp(store, replica, object);
+    let t = table(store, replica, object);
+    if t == 0 {
+        return 0;
+    }
+    store::read_stamp(store, t, object)
+}
+
+fn newcomer(store: &[u32; CELLS]) -> u8
+    ensures { λ r. ⌜ r ≡ newcomerOf (now (store .entry)) ⌝ }
+{
+    if joins::is_joining(store) {
+        return joins::newcomer_number(store);
     }
     0
+}
+
+fn copies(store: &[u32; CELLS]) -> u8
+    ensures { λ r. ⌜ r ≡ copiesOf (now (store .entry)) ⌝ }
+{
+    if joins::is_joining(store) {
+        return joins::copies(store) as u8;
+    }
+    0
+}
+
+// The live replicas in chain order, the newcomer and its copies. How many are live.
+pub fn chain(store: &[u32; CELLS], out: &mut [u8; CHAIN]) -> u8
+    ensures { λ r. ⌜ (r ≡ liveCount (now (store .entry))) × (now (out .exit) ≡ chainOf (now (store .entry))) ⌝ }
+{
+    let all = [
+        chain::number_in(store, 0),
+        chain::number_in(store, 1),
+        chain::number_in(store, 2),
+        chain::number_in(store, 3),
+        chain::number_in(store, 4),
+        chain::number_in(store, 5),
+        chain::number_in(store, 6),
+        chain::number_in(store, 7),
+        newcomer(store),
+        copies(store),
+    ];
+    *out = all;
+    chain::count(store) as u8
 }

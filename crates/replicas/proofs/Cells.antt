@@ -3,7 +3,7 @@ use mathlib.Core.Path.{_≡_, refl, ap, _∙_}
 use mathlib.Core.List.{List}
 use Prim.Native.Nat.{ℕ, _+_, _-_, _%_, _≤_, _<_, min}
 use native.Mathlib.Omega.{arith}
-use lib.Dec.{lit<}
+use lib.Dec.{lit<, ltb}
 use lib.ListN.{length, getD, set, length-set}
 use lib.Seq.{getD-set-same, getD-set-other}
 use borrow.Author.Tests.{lt-ltb}
@@ -13,9 +13,9 @@ use Rattle.lists.proofs.Closing.{length-moves}
 use Rattle.lists.proofs.Places.{listOf-same, getD-moves-other}
 use Rattle.stamp.specs.Stamps.{largerOf}
 use Rattle.store.specs.declared.Write.{Write}
-use Rattle.store.specs.{entryCell, valueCell, stampCell, storeCells, liveCount, orderAt, members, rowOf, highestOf}
+use Rattle.store.specs.{lastNumberCell, joinCell, entryCell, valueCell, stampCell, storeCells, liveCount, orderAt, members, rowOf, highestOf}
 use Rattle.store.specs.{permittedBy, appliedBy, entryAt, valueAt, stampAt, logged, tabled, raised}
-use Rattle.chain.specs.{chainPlace, isLive, permitting, removed}
+use Rattle.chain.specs.{chainPlace, permitting, removed}
 use Rattle.replicas.specs.Replicas.{nextPosition, applying}
 use Rattle.chain.proofs.Members.{by-test, count-most}
 
@@ -41,11 +41,11 @@ row-same q r m n e = omega arith
 pub row-apart : (q r : ℕ) → Named q → Named r → (q ≡ r → ⊥) → rowOf q ≡ rowOf r → ⊥
 row-apart q r m n d e = d (row-same q r m n e)
 
-entry-from : (f p : ℕ) → 33 ≤ entryCell f p
+pub entry-from : (f p : ℕ) → 33 ≤ entryCell f p
 unfolding entryCell
 entry-from f p = omega arith
 
-entry-below : (f p : ℕ) → f < 4 → entryCell f p < 289
+pub entry-below : (f p : ℕ) → f < 4 → entryCell f p < 289
 unfolding entryCell
 entry-below f p h = omega arith
 
@@ -53,7 +53,7 @@ pub value-from : (r o : ℕ) → 289 ≤ valueCell (rowOf r) o
 unfolding valueCell
 value-from r o = omega arith
 
-value-below : (r o : ℕ) → valueCell (rowOf r) o < 8481
+pub value-below : (r o : ℕ) → valueCell (rowOf r) o < 8481
 unfolding valueCell
 value-below r o = omega (arith, row-below r)
 
@@ -61,7 +61,7 @@ pub stamp-is : (r o : ℕ) → stampCell (rowOf r) o ≡ 8192 + valueCell (rowOf
 unfolding stampCell valueCell
 stamp-is r o = omega arith
 
-pub within : (s : List ℕ) (i : ℕ) → SizedStore s → i < 16673 → i < length s
+pub within : (s : List ℕ) (i : ℕ) → SizedStore s → i ≤ joinCell → i < length s
 unfolding storeCells
 within s i h b = omega arith
 
@@ -87,7 +87,7 @@ members-same s t e =
     place i h = ap (λ (n : ℕ). n % 256) (e (1 + i) (omega arith))
 
 -- an entry is read by its four fields
-entry-same : (s t : List ℕ) (p : ℕ) → ((f : ℕ) → f < 4 → getD s (entryCell f p) 0 ≡ getD t (entryCell f p) 0) → entryAt s p ≡ entryAt t p
+pub entry-same : (s t : List ℕ) (p : ℕ) → ((f : ℕ) → f < 4 → getD s (entryCell f p) 0 ≡ getD t (entryCell f p) 0) → entryAt s p ≡ entryAt t p
 unfolding entryAt
 entry-same s t p e =
     λ j. record {
@@ -115,9 +115,66 @@ kept-raised : (s : List ℕ) (r h n i : ℕ) → (i ≡ 9 + rowOf r → ⊥) →
 unfolding raised
 kept-raised s r h n i c d = getD-set-other (set s (9 + rowOf r) h) (25 + rowOf r) i n 0 d ∙ getD-set-other s (9 + rowOf r) i h 0 c
 
-sized-tabled : (s : List ℕ) (r : ℕ) (w : Write) → SizedStore s → SizedStore (tabled s r w)
+-- a table that takes a write changes nothing below the tables and nothing behind them
+pub low-tabled : (s : List ℕ) (r : ℕ) (w : Write) (i : ℕ) → i < 289 → getD (tabled s r w) i 0 ≡ getD s i 0
+low-tabled s r w i h =
+    kept-tabled s r w i (λ e. omega (arith, value-from r (w .object))) (λ e. omega (arith, stamp-is r (w .object), value-from r (w .object)))
+
+pub behind-tabled : (s : List ℕ) (r : ℕ) (w : Write) (i : ℕ) → lastNumberCell ≤ i → getD (tabled s r w) i 0 ≡ getD s i 0
+behind-tabled s r w i h =
+    kept-tabled s r w i (λ e. omega (arith, value-below r (w .object))) (λ e. omega (arith, stamp-is r (w .object), value-below r (w .object)))
+
+pub sized-tabled : (s : List ℕ) (r : ℕ) (w : Write) → SizedStore s → SizedStore (tabled s r w)
 unfolding tabled
 sized-tabled s r w h = simp length-set h
+
+-- what the tables hold then
+pub value-tabled-same : (s : List ℕ) (r : ℕ) (w : Write) → SizedStore s → valueAt (tabled s r w) r (w .object) ≡ w .value
+unfolding valueAt tabled
+value-tabled-same s r w z =
+    let cell : ℕ = valueCell (rowOf r) (w .object) in
+    getD-set-other (set s cell (w .value)) (stampCell (rowOf r) (w .object)) cell (w .stamp) 0 (λ e. omega (arith, stamp-is r (w .object))) ∙
+    getD-set-same s cell (w .value) 0 (within s cell z (omega (arith, value-below r (w .object))))
+
+pub stamp-tabled-same : (s : List ℕ) (r : ℕ) (w : Write) → SizedStore s → stampAt (tabled s r w) r (w .object) ≡ w .stamp
+unfolding stampAt tabled
+stamp-tabled-same s r w z =
+    let value : ℕ = valueCell (rowOf r) (w .object) in
+    let cell : ℕ = stampCell (rowOf r) (w .object) in
+    getD-set-same (set s value (w .value)) cell (w .stamp) 0
+    (simp length-set (within s cell z (omega (arith, stamp-is r (w .object), value-below r (w .object)))))
+
+-- at another table or another object
+module _ (s : List ℕ) (r : ℕ) (w : Write) (q o : ℕ) (m : Named q) (n : Named r) (a : o < limits.objects) (b : w .object < limits.objects) (apart : q ≡ r → o ≡ w .object → ⊥) where
+  tabled-cell : valueCell (rowOf q) o ≡ valueCell (rowOf r) (w .object) → ⊥
+  tabled-cell e = let same = cell-same q r o (w .object) m n a b e in apart (same .0) (same .1)
+
+  pub value-tabled-other : valueAt (tabled s r w) q o ≡ valueAt s q o
+  unfolding valueAt
+  value-tabled-other =
+      kept-tabled s r w (valueCell (rowOf q) o) tabled-cell (λ e. omega (arith, value-below q o, stamp-is r (w .object), value-from r (w .object)))
+
+  pub stamp-tabled-other : stampAt (tabled s r w) q o ≡ stampAt s q o
+  unfolding stampAt
+  stamp-tabled-other =
+      kept-tabled s r w (stampCell (rowOf q) o) (λ e. omega (arith, value-below r (w .object), stamp-is q o, value-from q o))
+      (λ e. tabled-cell (omega (arith, stamp-is q o, stamp-is r (w .object))))
+
+-- and every number that is not in the tables stays
+pub highest-tabled : (s : List ℕ) (r : ℕ) (w : Write) (q : ℕ) → highestOf (tabled s r w) q ≡ highestOf s q
+unfolding highestOf
+highest-tabled s r w q = low-tabled s r w (9 + rowOf q) (omega (arith, row-below q))
+
+pub permitted-tabled : (s : List ℕ) (r : ℕ) (w : Write) (q : ℕ) → permittedBy (tabled s r w) q ≡ permittedBy s q
+unfolding permittedBy
+permitted-tabled s r w q = low-tabled s r w (17 + rowOf q) (omega (arith, row-below q))
+
+pub applied-tabled : (s : List ℕ) (r : ℕ) (w : Write) (q : ℕ) → appliedBy (tabled s r w) q ≡ appliedBy s q
+unfolding appliedBy
+applied-tabled s r w q = low-tabled s r w (25 + rowOf q) (omega (arith, row-below q))
+
+pub entry-tabled : (s : List ℕ) (r : ℕ) (w : Write) (p : ℕ) → entryAt (tabled s r w) p ≡ entryAt s p
+entry-tabled s r w p = entry-same (tabled s r w) s p (λ f h. low-tabled s r w (entryCell f p) (entry-below f p h))
 
 pub sized-applying : (s : List ℕ) (r : ℕ) (w : Write) → SizedStore s → SizedStore (applying s r w)
 unfolding applying raised
@@ -134,6 +191,15 @@ module _ (s : List ℕ) (r : ℕ) (w : Write) where
   low-applying : (i : ℕ) → i < 289 → (i ≡ 9 + rowOf r → ⊥) → (i ≡ 25 + rowOf r → ⊥) → getD (applying s r w) i 0 ≡ getD s i 0
   low-applying i h c d =
       kept-applying i (λ e. omega (arith, value-from r (w .object))) (λ e. omega (arith, value-from r (w .object), stamp-is r (w .object))) c d
+
+  -- the order, and what stands behind the tables, stay
+  pub order-applying : (i : ℕ) → i < 9 → getD (applying s r w) i 0 ≡ getD s i 0
+  order-applying i h = low-applying i (omega arith) (λ e. omega arith) (λ e. omega arith)
+
+  pub behind-applying : (i : ℕ) → lastNumberCell ≤ i → getD (applying s r w) i 0 ≡ getD s i 0
+  behind-applying i h =
+      kept-applying i (λ e. omega (arith, value-below r (w .object))) (λ e. omega (arith, stamp-is r (w .object), value-below r (w .object)))
+      (λ e. omega (arith, row-below r)) (λ e. omega (arith, row-below r))
 
   pub members-applying : members (applying s r w) ≡ members s
   members-applying = members-same (applying s r w) s (λ i h. low-applying i (omega arith) (λ e. omega arith) (λ e. omega arith))
@@ -254,6 +320,12 @@ module _ (s : List ℕ) (p : ℕ) (w : Write) where
   low-logged : (i : ℕ) → i < 33 → getD (logged s p w) i 0 ≡ getD s i 0
   low-logged i h = kept-logged i (λ f b e. omega (arith, e, entry-from f p))
 
+  pub order-logged : (i : ℕ) → i < 9 → getD (logged s p w) i 0 ≡ getD s i 0
+  order-logged i h = low-logged i (omega arith)
+
+  pub behind-logged : (i : ℕ) → lastNumberCell ≤ i → getD (logged s p w) i 0 ≡ getD s i 0
+  behind-logged i h = kept-logged i (λ f b e. omega (arith, e, entry-below f p b))
+
   pub members-logged : members (logged s p w) ≡ members s
   members-logged = members-same (logged s p w) s (λ i h. low-logged i (omega arith))
 
@@ -334,6 +406,12 @@ module _ (s : List ℕ) (r number : ℕ) where
   unfolding permitting
   kept-permitting i d = getD-set-other s (17 + rowOf r) i number 0 d
 
+  pub order-permitting : (i : ℕ) → i < 9 → getD (permitting s r number) i 0 ≡ getD s i 0
+  order-permitting i h = kept-permitting i (λ e. omega arith)
+
+  pub behind-permitting : (i : ℕ) → lastNumberCell ≤ i → getD (permitting s r number) i 0 ≡ getD s i 0
+  behind-permitting i h = kept-permitting i (λ e. omega (arith, row-below r))
+
   pub members-permitting : members (permitting s r number) ≡ members s
   members-permitting = members-same (permitting s r number) s (λ i h. kept-permitting i (λ e. omega arith))
 
@@ -366,43 +444,47 @@ module _ (s : List ℕ) (r number : ℕ) where
 
 -- ---- a removal
 
-pub sized-removed : (s : List ℕ) (r : ℕ) → SizedStore s → SizedStore (removed s r)
+pub sized-removed : (s : List ℕ) (r : ℕ) → SizedStore s → SizedStore (removed s (chainPlace s r))
 unfolding removed
 sized-removed s r h =
-    by-test SizedStore (isLive s r) (set (moves 0 s (1 + chainPlace s r) (liveCount s - 1 - chainPlace s r)) 0 (liveCount s - 1)) s
+    by-test SizedStore (ltb (chainPlace s r) (liveCount s))
+    (set (set (moves 0 s (1 + chainPlace s r) (7 - chainPlace s r)) 8 (orderAt s (chainPlace s r))) 0 (liveCount s - 1)) s
     (λ e. simp (length-set, length-moves) h) (λ e. h)
 
 module _ (s : List ℕ) (r : ℕ) where
   -- only the order changes
-  kept-removed : (i : ℕ) → 9 ≤ i → getD (removed s r) i 0 ≡ getD s i 0
+  pub kept-removed : (i : ℕ) → 9 ≤ i → getD (removed s (chainPlace s r)) i 0 ≡ getD s i 0
   unfolding removed
   kept-removed i h =
-      by-test (λ t. getD t i 0 ≡ getD s i 0) (isLive s r)
-      (set (moves 0 s (1 + chainPlace s r) (liveCount s - 1 - chainPlace s r)) 0 (liveCount s - 1)) s
+      by-test (λ t. getD t i 0 ≡ getD s i 0) (ltb (chainPlace s r) (liveCount s)) (set (set closed 8 (orderAt s (chainPlace s r))) 0 (liveCount s - 1)) s
       (λ e.
-      getD-set-other (moves 0 s (1 + chainPlace s r) (liveCount s - 1 - chainPlace s r)) 0 i (liveCount s - 1) 0 (λ q. omega arith) ∙
-      getD-moves-other 0 s (1 + chainPlace s r) (liveCount s - 1 - chainPlace s r) i (λ b. omega (arith, b, count-most s)))
+      getD-set-other (set closed 8 (orderAt s (chainPlace s r))) 0 i (liveCount s - 1) 0 (λ q. omega arith) ∙
+      getD-set-other closed 8 i (orderAt s (chainPlace s r)) 0 (λ q. omega arith) ∙
+      getD-moves-other 0 s (1 + chainPlace s r) (7 - chainPlace s r) i (λ b. omega (arith, b)))
       (λ e. refl)
+    where
+      closed : List ℕ
+      closed = moves 0 s (1 + chainPlace s r) (7 - chainPlace s r)
 
-  pub highest-removed : (q : ℕ) → highestOf (removed s r) q ≡ highestOf s q
+  pub highest-removed : (q : ℕ) → highestOf (removed s (chainPlace s r)) q ≡ highestOf s q
   unfolding highestOf
   highest-removed q = kept-removed (9 + rowOf q) (omega arith)
 
-  pub permitted-removed : (q : ℕ) → permittedBy (removed s r) q ≡ permittedBy s q
+  pub permitted-removed : (q : ℕ) → permittedBy (removed s (chainPlace s r)) q ≡ permittedBy s q
   unfolding permittedBy
   permitted-removed q = kept-removed (17 + rowOf q) (omega arith)
 
-  pub applied-removed : (q : ℕ) → appliedBy (removed s r) q ≡ appliedBy s q
+  pub applied-removed : (q : ℕ) → appliedBy (removed s (chainPlace s r)) q ≡ appliedBy s q
   unfolding appliedBy
   applied-removed q = kept-removed (25 + rowOf q) (omega arith)
 
-  pub entry-removed : (p : ℕ) → entryAt (removed s r) p ≡ entryAt s p
-  entry-removed p = entry-same (removed s r) s p (λ f b. kept-removed (entryCell f p) (omega (arith, entry-from f p)))
+  pub entry-removed : (p : ℕ) → entryAt (removed s (chainPlace s r)) p ≡ entryAt s p
+  entry-removed p = entry-same (removed s (chainPlace s r)) s p (λ f b. kept-removed (entryCell f p) (omega (arith, entry-from f p)))
 
-  pub value-removed : (q o : ℕ) → valueAt (removed s r) q o ≡ valueAt s q o
+  pub value-removed : (q o : ℕ) → valueAt (removed s (chainPlace s r)) q o ≡ valueAt s q o
   unfolding valueAt
   value-removed q o = kept-removed (valueCell (rowOf q) o) (omega (arith, value-from q o))
 
-  pub stamp-removed : (q o : ℕ) → stampAt (removed s r) q o ≡ stampAt s q o
+  pub stamp-removed : (q o : ℕ) → stampAt (removed s (chainPlace s r)) q o ≡ stampAt s q o
   unfolding stampAt
   stamp-removed q o = kept-removed (stampCell (rowOf q) o) (omega (arith, stamp-is q o))

@@ -16,7 +16,7 @@ use Rattle.chain.proofs.Members.{place-at, place-below, place-found, count-same
 use Rattle.replicas.proofs.Cells.{SizedStore, Named, row-apart, sized-logged, members-applying, applied-applying-same, applied-applying-other}
 use Rattle.replicas.proofs.Cells.{members-permitting, applied-permitting, members-logged, applied-logged, applied-removed}
 use Rattle.replicas.proofs.Shape.{removed-gone, count-removed, member-removed-before, member-removed-behind, count-empty, member-empty, applied-empty}
-use Rattle.replicas.proofs.Moves.{accepts-live, accepts-position, pending-is}
+use Rattle.replicas.proofs.Moves.{accepts-position, pending-is}
 
 -- distinct members, each with a number of its own, and none has applied more than the one before it
 pub record Descending (s : List ℕ) : Type 0 where
@@ -102,8 +102,8 @@ descending-logged s p w g = descending-same s (logged s p w) (members-logged s p
 abbrev Stood : List ℕ → ℕ → ℕ → ℕ → Type 0
 Stood s r p k = ((k ≡ p) × (p < chainPlace s r)) ⊎ ((k ≡ p + 1) × (chainPlace s r ≤ p))
 
-stood : (s : List ℕ) (r p : ℕ) → SizedStore s → isLive s r ≡ true → p < liveCount (removed s r) →
-    (k : ℕ) × (k < liveCount s) × (memberAt (removed s r) p ≡ memberAt s k) × Stood s r p k
+stood : (s : List ℕ) (r p : ℕ) → SizedStore s → isLive s r ≡ true → p < liveCount (removed s (chainPlace s r)) →
+    (k : ℕ) × (k < liveCount s) × (memberAt (removed s (chainPlace s r)) p ≡ memberAt s k) × Stood s r p k
 stood s r p z e h =
     elim (decLt p (chainPlace s r)) [
       | yes b ↦ (p, omega (arith, count-removed s r z e), member-removed-before s r z e p b, inl (refl, b))
@@ -123,7 +123,7 @@ stood-order s r p k l (inl a) (inr b) = omega arith
 stood-order s r p k l (inr a) (inl b) = omega arith
 stood-order s r p k l (inr a) (inr b) = omega arith
 
-removed-live : (s : List ℕ) (r : ℕ) → SizedStore s → isLive s r ≡ true → Descending s → Descending (removed s r)
+removed-live : (s : List ℕ) (r : ℕ) → SizedStore s → isLive s r ≡ true → Descending s → Descending (removed s (chainPlace s r))
 removed-live s r z e g = record {
   named = λ p h. let at = stood s r p z e h in rw (at .2) (g .named (at .0) (at .1));
   distinct = λ p q h m d.
@@ -133,17 +133,17 @@ removed-live s r z e g = record {
   falls = λ p h.
       let a = stood s r p z e (omega arith) in
       let b = stood s r (p + 1) z e h in
-      rw (applied-removed s r (memberAt (removed s r) p), applied-removed s r (memberAt (removed s r) (p + 1)), a .2, b .2)
+      rw (applied-removed s r (memberAt (removed s (chainPlace s r)) p), applied-removed s r (memberAt (removed s (chainPlace s r)) (p + 1)), a .2, b .2)
       (falls-to s (a .0) (b .0) g (stood-order s r p (a .0) (b .0) (a .3) (b .3)) (b .1));
   counted = λ p h.
       let a = stood s r p z e h in
-      rw (applied-removed s r (memberAt (removed s r) p), a .2) (g .counted (a .0) (a .1));
+      rw (applied-removed s r (memberAt (removed s (chainPlace s r)) p), a .2) (g .counted (a .0) (a .1));
 }
 
-pub descending-removed : (s : List ℕ) (r : ℕ) → SizedStore s → Descending s → Descending (removed s r)
+pub descending-removed : (s : List ℕ) (r : ℕ) → SizedStore s → Descending s → Descending (removed s (chainPlace s r))
 descending-removed s r z g = go (isLive s r) refl
   where
-    go : (t : Bool) → isLive s r ≡ t → Descending (removed s r)
+    go : (t : Bool) → isLive s r ≡ t → Descending (removed s (chainPlace s r))
     go true e = removed-live s r z e g
     go false e = rw (removed-gone s r e) g
 
@@ -209,13 +209,13 @@ descending-advancing s r z g e h =
     descending-applying s r (oldest s r) g z e (pending-short s r g e h) (λ b. omega (arith, h, pending-is s r h))
 
 -- a stamped write that comes to the head
-pub descending-taking : (s : List ℕ) (r : ℕ) (w : Write) → SizedStore s → Descending s → chainPlace s r ≡ 0 → accepts s r (w .stamp) ≡ true →
+pub descending-taking : (s : List ℕ) (r : ℕ) (w : Write) → SizedStore s → Descending s → isLive s r ≡ true → chainPlace s r ≡ 0 → accepts s r (w .stamp) ≡ true →
     Descending (taking s r w)
 unfolding taking
-descending-taking s r w z g h a =
+descending-taking s r w z g e h a =
     let log = logged s (appliedBy s r) w in
     let same = members-logged s (appliedBy s r) w in
     descending-applying log r w (descending-logged s (appliedBy s r) w g) (sized-logged s (appliedBy s r) w z)
-    (live-same log s same r ∙ accepts-live s r (w .stamp) a)
+    (live-same log s same r ∙ e)
     (rw (applied-logged s (appliedBy s r) w r) (accepts-position s r (w .stamp) a))
     (λ b. absurd (omega (arith, place-same log s same r)))

@@ -18,7 +18,7 @@ use Rattle.chain.proofs.Members.{head-is, tail-is, member-in, in-live, place-be
 use Rattle.replicas.proofs.Cells.{SizedStore, members-applying, entry-applying, applied-applying-same, applied-applying-other}
 use Rattle.replicas.proofs.Cells.{members-logged, applied-logged, sized-logged, entry-logged-same, entry-logged-other, positions-apart, applied-removed, entry-removed}
 use Rattle.replicas.proofs.Shape.{count-removed, member-removed-before, member-removed-behind}
-use Rattle.replicas.proofs.Moves.{accepts-live, accepts-room, accepts-position, pending-after, pending-behind, pending-head}
+use Rattle.replicas.proofs.Moves.{accepts-room, accepts-position, pending-after, pending-behind, pending-head}
 use Rattle.replicas.proofs.Descending.{Descending, place-is, rows-apart, places-apart, falls-to, before-apart, own-lags, pending-short, descending-removed, descending-logged}
 
 -- ---- stretches of the log
@@ -68,7 +68,7 @@ unfolding linkInto
 link-gone s r e = rw e
 
 -- a live replica's link is told by where it begins, how much it holds and the entries there
-link-is : (s t : List ℕ) (r : ℕ) → isLive s r ≡ true → isLive t r ≡ true → appliedBy t r ≡ appliedBy s r → pending t r ≡ pending s r →
+pub link-is : (s t : List ℕ) (r : ℕ) → isLive s r ≡ true → isLive t r ≡ true → appliedBy t r ≡ appliedBy s r → pending t r ≡ pending s r →
     ((q : ℕ) → appliedBy s r ≤ q → q < appliedBy s r + pending s r → entryAt t q ≡ entryAt s q) → linkInto t r ≡ linkInto s r
 link-is s t r e f a p same =
     link-live t r f ∙ rw (a, p) (entries-same t s (appliedBy s r) (pending s r) same) ∙ sym (link-live s r e)
@@ -147,56 +147,56 @@ module _ (s : List ℕ) (r : ℕ) (g : Descending s) (h : HasNext s r) where
 
 module _ (s : List ℕ) (r : ℕ) (g : Descending s) (z : SizedStore s) (h : HasNext s r) where
   -- the next one moves up one place
-  moved-place : chainPlace (removed s r) (successorOf s r) ≡ chainPlace s r
+  moved-place : chainPlace (removed s (chainPlace s r)) (successorOf s r) ≡ chainPlace s r
   unfolding successorOf
   moved-place =
       let live = is-live s r g h in
-      place-found (removed s r) (chainPlace s r) (successorOf s r) (omega (arith, count-removed s r z live))
+      place-found (removed s (chainPlace s r)) (chainPlace s r) (successorOf s r) (omega (arith, count-removed s r z live))
       (λ k b e.
       let same : k ≡ chainPlace s r + 1 =
       g .distinct k (chainPlace s r + 1) (omega arith) h (sym (member-removed-before s r z live k b) ∙ e) in
       omega arith)
       (member-removed-behind s r z live (chainPlace s r) (le-refl (chainPlace s r)))
 
-  moved-live : isLive (removed s r) (successorOf s r) ≡ true
-  moved-live = below-live (removed s r) (successorOf s r) (omega (arith, moved-place, count-removed s r z (is-live s r g h)))
+  moved-live : isLive (removed s (chainPlace s r)) (successorOf s r) ≡ true
+  moved-live = below-live (removed s (chainPlace s r)) (successorOf s r) (omega (arith, moved-place, count-removed s r z (is-live s r g h)))
 
   -- 'Removing the head loses its outgoing link': the next one, now the head, has nothing to come
-  pub removed-head : chainPlace s r ≡ 0 → linkInto (removed s r) (successorOf s r) ≡ []
+  pub removed-head : chainPlace s r ≡ 0 → linkInto (removed s (chainPlace s r)) (successorOf s r) ≡ []
   unfolding entries
   removed-head e =
-      link-live (removed s r) (successorOf s r) moved-live ∙
-      ap (entries (removed s r) (appliedBy (removed s r) (successorOf s r))) (pending-head (removed s r) (successorOf s r) (moved-place ∙ e))
+      link-live (removed s (chainPlace s r)) (successorOf s r) moved-live ∙
+      ap (entries (removed s (chainPlace s r)) (appliedBy (removed s (chainPlace s r)) (successorOf s r))) (pending-head (removed s (chainPlace s r)) (successorOf s r) (moved-place ∙ e))
 
   -- removing one between: what the two links held
-  moved-pending : 0 < chainPlace s r → pending (removed s r) (successorOf s r) ≡ pending s (successorOf s r) + pending s r
+  moved-pending : 0 < chainPlace s r → pending (removed s (chainPlace s r)) (successorOf s r) ≡ pending s (successorOf s r) + pending s r
   moved-pending b =
       let live = is-live s r g h in
-      let before : memberAt (removed s r) (chainPlace (removed s r) (successorOf s r) - 1) ≡ memberAt s (chainPlace s r - 1) =
-      ap (λ (p : ℕ). memberAt (removed s r) (p - 1)) moved-place ∙ member-removed-before s r z live (chainPlace s r - 1) (omega arith) in
-      let now : pending (removed s r) (successorOf s r) ≡ appliedBy s (memberAt s (chainPlace s r - 1)) - appliedBy s (successorOf s r) =
-      simp (before, applied-removed) at (pending-behind (removed s r) (successorOf s r) (omega (arith, moved-place))) in
+      let before : memberAt (removed s (chainPlace s r)) (chainPlace (removed s (chainPlace s r)) (successorOf s r) - 1) ≡ memberAt s (chainPlace s r - 1) =
+      ap (λ (p : ℕ). memberAt (removed s (chainPlace s r)) (p - 1)) moved-place ∙ member-removed-before s r z live (chainPlace s r - 1) (omega arith) in
+      let now : pending (removed s (chainPlace s r)) (successorOf s r) ≡ appliedBy s (memberAt s (chainPlace s r - 1)) - appliedBy s (successorOf s r) =
+      simp (before, applied-removed) at (pending-behind (removed s (chainPlace s r)) (successorOf s r) (omega (arith, moved-place))) in
       omega (arith, now, next-pending s r g h, next-lags s r g h, pending-behind s r b, own-lags s r g live b)
 
   -- 'Removing one between joins its two links, the outgoing link's writes first.'
-  pub removed-joins : 0 < chainPlace s r → linkInto (removed s r) (successorOf s r) ≡ linkInto s (successorOf s r) ++ linkInto s r
+  pub removed-joins : 0 < chainPlace s r → linkInto (removed s (chainPlace s r)) (successorOf s r) ≡ linkInto s (successorOf s r) ++ linkInto s r
   removed-joins b =
       let next = successorOf s r in
-      link-live (removed s r) next moved-live ∙
+      link-live (removed s (chainPlace s r)) next moved-live ∙
       rw (applied-removed s r next, moved-pending b)
-      (entries-same (removed s r) s (appliedBy s next) (pending s next + pending s r) (λ q c d. entry-removed s r q) ∙
+      (entries-same (removed s (chainPlace s r)) s (appliedBy s next) (pending s next + pending s r) (λ q c d. entry-removed s r q) ∙
       entries-append s (appliedBy s next) (pending s next) (pending s r) ∙
       ap (λ (p : ℕ). entries s (appliedBy s next) (pending s next) ++ entries s p (pending s r)) (seam s r g h)) ∙
       λ j. sym (link-live s next (next-live s r g h)) j ++ sym (link-live s r (is-live s r g h)) j
 
 -- the removed replica itself is gone, and its incoming link with it: 'removing the tail empties its incoming link'
-pub removed-itself : (s : List ℕ) (r : ℕ) → Descending s → SizedStore s → isLive s r ≡ true → linkInto (removed s r) r ≡ []
-removed-itself s r g z e = link-gone (removed s r) r (go (isLive (removed s r) r) refl)
+pub removed-itself : (s : List ℕ) (r : ℕ) → Descending s → SizedStore s → isLive s r ≡ true → linkInto (removed s (chainPlace s r)) r ≡ []
+removed-itself s r g z e = link-gone (removed s (chainPlace s r)) r (go (isLive (removed s (chainPlace s r)) r) refl)
   where
     at-own : (k : ℕ) → k < liveCount s → memberAt s k ≡ r → k ≡ chainPlace s r
     at-own k h q = g .distinct k (chainPlace s r) h (place-below s r e) (q ∙ sym (place-at s r e))
 
-    absent : (p : ℕ) → p < liveCount (removed s r) → memberAt (removed s r) p ≡ r → ⊥
+    absent : (p : ℕ) → p < liveCount (removed s (chainPlace s r)) → memberAt (removed s (chainPlace s r)) p ≡ r → ⊥
     absent p h q =
         elim (decLt p (chainPlace s r)) [
           | yes b ↦ omega (
@@ -210,8 +210,8 @@ removed-itself s r g z e = link-gone (removed s r) r (go (isLive (removed s r) r
           )
         ]
 
-    go : (t : Bool) → isLive (removed s r) r ≡ t → isLive (removed s r) r ≡ false
-    go true f = absurd (absent (chainPlace (removed s r) r) (place-below (removed s r) r f) (place-at (removed s r) r f))
+    go : (t : Bool) → isLive (removed s (chainPlace s r)) r ≡ t → isLive (removed s (chainPlace s r)) r ≡ false
+    go true f = absurd (absent (chainPlace (removed s (chainPlace s r)) r) (place-below (removed s (chainPlace s r)) r f) (place-at (removed s (chainPlace s r)) r f))
     go false f = f
 
 -- ---- a replica that applies the oldest write of its incoming link
@@ -278,10 +278,9 @@ within-head s q r g f e z =
         omega (arith, rw (place-at s r e) at front, pending-behind s q b, own-lags s q g f b)
 
 -- so a write that comes into the log takes the cell of none that a link holds
-logged-link : (s : List ℕ) (q r : ℕ) (w : Write) → Descending s → isLive s q ≡ true → chainPlace s r ≡ 0 → accepts s r (w .stamp) ≡ true →
+logged-link : (s : List ℕ) (q r : ℕ) (w : Write) → Descending s → isLive s q ≡ true → isLive s r ≡ true → chainPlace s r ≡ 0 → accepts s r (w .stamp) ≡ true →
     linkInto (logged s (appliedBy s r) w) q ≡ linkInto s q
-logged-link s q r w g f z a =
-    let e = accepts-live s r (w .stamp) a in
+logged-link s q r w g f e z a =
     let log = logged s (appliedBy s r) w in
     let same = members-logged s (appliedBy s r) w in
     link-is s log q f (live-same log s same q ∙ f) (applied-logged s (appliedBy s r) w q) (pending-logged (ℕ-discrete (chainPlace s q) 0))
@@ -330,7 +329,7 @@ module _ (s : List ℕ) (q r : ℕ) (w : Write) (g : Descending s) (f : isLive s
       (λ p a b. entry-applying s r w p)
 
 -- 'applied and put in the link to the next replica': at the head, last in its outgoing link
-module _ (s : List ℕ) (r : ℕ) (w : Write) (g : Descending s) (z : SizedStore s) (y : chainPlace s r ≡ 0) (a : accepts s r (w .stamp) ≡ true) where
+module _ (s : List ℕ) (r : ℕ) (w : Write) (g : Descending s) (z : SizedStore s) (e : isLive s r ≡ true) (y : chainPlace s r ≡ 0) (a : accepts s r (w .stamp) ≡ true) where
   abbrev log : List ℕ
   log = logged s (appliedBy s r) w
 
@@ -351,72 +350,72 @@ module _ (s : List ℕ) (r : ℕ) (w : Write) (g : Descending s) (z : SizedStore
       next-link log r (descending-logged s (appliedBy s r) w g) has w (sized-logged s (appliedBy s r) w z)
       (rw (applied-logged s (appliedBy s r) w r) (accepts-position s r (w .stamp) a))
       (ap (entryAt log) (applied-logged s (appliedBy s r) w r) ∙ entry-logged-same s (appliedBy s r) w z) ∙
-      ap (λ (l : List Write). l ++ w ∷ []) (ap (linkInto log) next ∙ logged-link s (memberAt s (chainPlace s r + 1)) r w g (next-live s r g h) y a)
+      ap (λ (l : List Write). l ++ w ∷ []) (ap (linkInto log) next ∙ logged-link s (memberAt s (chainPlace s r + 1)) r w g (next-live s r g h) e y a)
 
   pub taken-others : (q : ℕ) → isLive s q ≡ true → 1 < chainPlace s q → linkInto (taking s r w) q ≡ linkInto s q
   unfolding taking
   taken-others q f b =
-      applying-others log q r w (descending-logged s (appliedBy s r) w g) (log-live q ∙ f) (log-live r ∙ accepts-live s r (w .stamp) a)
+      applying-others log q r w (descending-logged s (appliedBy s r) w g) (log-live q ∙ f) (log-live r ∙ e)
       (λ x. omega (arith, log-same q, log-same r))
       (λ x. omega (arith, log-same q, log-same r)) ∙
-      logged-link s q r w g f y a
+      logged-link s q r w g f e y a
 
 -- a removal moves the replicas behind it up one place, and leaves those before it
 module _ (s : List ℕ) (q r : ℕ) (g : Descending s) (z : SizedStore s) (f : isLive s q ≡ true) (e : isLive s r ≡ true) where
-  left-before : chainPlace s q < chainPlace s r → chainPlace (removed s r) q ≡ chainPlace s q
+  left-before : chainPlace s q < chainPlace s r → chainPlace (removed s (chainPlace s r)) q ≡ chainPlace s q
   left-before b =
-      let here : memberAt (removed s r) (chainPlace s q) ≡ q = member-removed-before s r z e (chainPlace s q) b ∙ place-at s q f in
-      ap (chainPlace (removed s r)) (sym here) ∙
-      place-is (removed s r) (chainPlace s q) (descending-removed s r z g) (omega (arith, count-removed s r z e, place-below s r e))
+      let here : memberAt (removed s (chainPlace s r)) (chainPlace s q) ≡ q = member-removed-before s r z e (chainPlace s q) b ∙ place-at s q f in
+      ap (chainPlace (removed s (chainPlace s r))) (sym here) ∙
+      place-is (removed s (chainPlace s r)) (chainPlace s q) (descending-removed s r z g) (omega (arith, count-removed s r z e, place-below s r e))
 
-  left-behind : chainPlace s r < chainPlace s q → chainPlace (removed s r) q ≡ chainPlace s q - 1
+  left-behind : chainPlace s r < chainPlace s q → chainPlace (removed s (chainPlace s r)) q ≡ chainPlace s q - 1
   left-behind b =
       let up : chainPlace s q - 1 + 1 ≡ chainPlace s q = omega arith in
-      let here : memberAt (removed s r) (chainPlace s q - 1) ≡ q =
+      let here : memberAt (removed s (chainPlace s r)) (chainPlace s q - 1) ≡ q =
       member-removed-behind s r z e (chainPlace s q - 1) (omega arith) ∙ ap (memberAt s) up ∙ place-at s q f in
-      ap (chainPlace (removed s r)) (sym here) ∙
-      place-is (removed s r) (chainPlace s q - 1) (descending-removed s r z g) (omega (arith, count-removed s r z e, place-below s q f))
+      ap (chainPlace (removed s (chainPlace s r))) (sym here) ∙
+      place-is (removed s (chainPlace s r)) (chainPlace s q - 1) (descending-removed s r z g) (omega (arith, count-removed s r z e, place-below s q f))
 
   -- at another place, with the same replica before it, as much is to come as before
-  left-pending : (k : ℕ) → chainPlace (removed s r) q ≡ k → 0 < k → 0 < chainPlace s q →
-      memberAt (removed s r) (k - 1) ≡ memberAt s (chainPlace s q - 1) → pending (removed s r) q ≡ pending s q
+  left-pending : (k : ℕ) → chainPlace (removed s (chainPlace s r)) q ≡ k → 0 < k → 0 < chainPlace s q →
+      memberAt (removed s (chainPlace s r)) (k - 1) ≡ memberAt s (chainPlace s q - 1) → pending (removed s (chainPlace s r)) q ≡ pending s q
   left-pending k p b h same =
-      let before : memberAt (removed s r) (chainPlace (removed s r) q - 1) ≡ memberAt s (chainPlace s q - 1) =
-      ap (λ (i : ℕ). memberAt (removed s r) (i - 1)) p ∙ same in
-      simp (before, applied-removed) at (pending-behind (removed s r) q (omega (arith, p))) ∙ sym (pending-behind s q h)
+      let before : memberAt (removed s (chainPlace s r)) (chainPlace (removed s (chainPlace s r)) q - 1) ≡ memberAt s (chainPlace s q - 1) =
+      ap (λ (i : ℕ). memberAt (removed s (chainPlace s r)) (i - 1)) p ∙ same in
+      simp (before, applied-removed) at (pending-behind (removed s (chainPlace s r)) q (omega (arith, p))) ∙ sym (pending-behind s q h)
 
   module _ (d : chainPlace s q ≡ chainPlace s r → ⊥) (n : chainPlace s q ≡ chainPlace s r + 1 → ⊥) where
     further : ¬ (chainPlace s q < chainPlace s r) → chainPlace s r + 1 < chainPlace s q
     further b = omega (arith, d, n, b)
 
-    removed-behind : chainPlace s r + 1 < chainPlace s q → pending (removed s r) q ≡ pending s q
+    removed-behind : chainPlace s r + 1 < chainPlace s q → pending (removed s (chainPlace s r)) q ≡ pending s q
     removed-behind b =
         let up : chainPlace s q - 1 - 1 + 1 ≡ chainPlace s q - 1 = omega arith in
         left-pending (chainPlace s q - 1) (left-behind (omega arith)) (omega arith) (omega arith)
         (member-removed-behind s r z e (chainPlace s q - 1 - 1) (omega arith) ∙ ap (memberAt s) up)
 
-    removed-pending : pending (removed s r) q ≡ pending s q
+    removed-pending : pending (removed s (chainPlace s r)) q ≡ pending s q
     removed-pending =
         elim (decLt (chainPlace s q) (chainPlace s r)) [
           | yes b ↦ elim (ℕ-discrete (chainPlace s q) 0) [
-            | yes y ↦ pending-head (removed s r) q (left-before b ∙ y) ∙ sym (pending-head s q y)
+            | yes y ↦ pending-head (removed s (chainPlace s r)) q (left-before b ∙ y) ∙ sym (pending-head s q y)
             | no y ↦ left-pending (chainPlace s q) (left-before b) (omega arith) (omega arith)
                 (member-removed-before s r z e (chainPlace s q - 1) (omega arith))
           ]
           | no b ↦ removed-behind (further b)
         ]
 
-    left-live : isLive (removed s r) q ≡ true
+    left-live : isLive (removed s (chainPlace s r)) q ≡ true
     left-live =
         elim (decLt (chainPlace s q) (chainPlace s r)) [
-          | yes b ↦ below-live (removed s r) q (omega (arith, left-before b, count-removed s r z e, place-below s r e))
-          | no b ↦ below-live (removed s r) q (omega (arith, left-behind (omega (arith, further b)), further b, count-removed s r z e, place-below s q f))
+          | yes b ↦ below-live (removed s (chainPlace s r)) q (omega (arith, left-before b, count-removed s r z e, place-below s r e))
+          | no b ↦ below-live (removed s (chainPlace s r)) q (omega (arith, left-behind (omega (arith, further b)), further b, count-removed s r z e, place-below s q f))
         ]
 
     -- a removal leaves every link but those of the replica and of the next one as it is
-    pub removed-others : linkInto (removed s r) q ≡ linkInto s q
+    pub removed-others : linkInto (removed s (chainPlace s r)) q ≡ linkInto s q
     removed-others =
-        link-is s (removed s r) q f left-live (applied-removed s r q) removed-pending (λ p a b. entry-removed s r p)
+        link-is s (removed s (chainPlace s r)) q f left-live (applied-removed s r q) removed-pending (λ p a b. entry-removed s r p)
 
 -- ---- all links together
 

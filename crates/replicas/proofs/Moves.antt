@@ -11,7 +11,7 @@ use Rattle.stamp.specs.Stamps.{isAbove}
 use Rattle.stamp.proofs.Laws.{above-true, above-false}
 use Rattle.store.specs.declared.Write.{Write}
 use Rattle.store.specs.{highestOf, permittedBy, appliedBy, entryAt, stampAt, logged}
-use Rattle.chain.specs.{chainPlace, isLive, memberAt, headOf, tailOf}
+use Rattle.chain.specs.{chainPlace, memberAt, headOf, tailOf}
 use Rattle.replicas.specs.Replicas.{linkedWrites, accepts, applying, taking, pendingAt, pending, oldest, answersDirect}
 
 no-test : {A : Type 0} → false ≡ true → A
@@ -31,7 +31,6 @@ but false b e = (refl, e)
 
 abbrev Accepted : List ℕ → ℕ → ℕ → Type 0
 Accepted s r stamp =
-    (isLive s r ≡ true) ×
     (isAbove stamp (highestOf s r) ≡ true) ×
     (leb limits.linked (linkedWrites s) ≡ false) ×
     (ltb (appliedBy s r) limits.lastPosition ≡ true)
@@ -39,22 +38,18 @@ Accepted s r stamp =
 accepted : (s : List ℕ) (r stamp : ℕ) → accepts s r stamp ≡ true → Accepted s r stamp
 unfolding accepts
 accepted s r stamp e =
-    let live = both (isLive s r) _ e in
-    let above = both (isAbove stamp (highestOf s r)) _ (live .1) in
+    let above = both (isAbove stamp (highestOf s r)) _ e in
     let room = but (leb limits.linked (linkedWrites s)) _ (above .1) in
-    (live .0, above .0, room .0, room .1)
-
-pub accepts-live : (s : List ℕ) (r stamp : ℕ) → accepts s r stamp ≡ true → isLive s r ≡ true
-accepts-live s r stamp e = accepted s r stamp e .0
+    (above .0, room .0, room .1)
 
 pub accepts-above : (s : List ℕ) (r stamp : ℕ) → accepts s r stamp ≡ true → highestOf s r < stamp
-accepts-above s r stamp e = above-true stamp (highestOf s r) (accepted s r stamp e .1)
+accepts-above s r stamp e = above-true stamp (highestOf s r) (accepted s r stamp e .0)
 
 pub accepts-room : (s : List ℕ) (r stamp : ℕ) → accepts s r stamp ≡ true → linkedWrites s < limits.linked
-accepts-room s r stamp e = leb-false limits.linked (linkedWrites s) (accepted s r stamp e .2)
+accepts-room s r stamp e = leb-false limits.linked (linkedWrites s) (accepted s r stamp e .1)
 
 pub accepts-position : (s : List ℕ) (r stamp : ℕ) → accepts s r stamp ≡ true → appliedBy s r < limits.lastPosition
-accepts-position s r stamp e = ltb-true (appliedBy s r) limits.lastPosition (accepted s r stamp e .3)
+accepts-position s r stamp e = ltb-true (appliedBy s r) limits.lastPosition (accepted s r stamp e .2)
 
 -- ---- a link that moves on
 

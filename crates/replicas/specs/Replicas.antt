@@ -6,20 +6,18 @@ use lib.Dec.{eqb, leb, ltb}
 use Rattle.limits.specs as limits
 use Rattle.stamp.specs.Stamps.{isAbove, largerOf}
 use Rattle.store.specs.{highestOf, permittedBy, appliedBy, entryAt, stampAt, logged, tabled, raised}
-use Rattle.chain.specs.{chainPlace, isLive, memberAt, headOf, tailOf}
+use Rattle.chain.specs.{chainPlace, memberAt, headOf, tailOf}
 use Rattle.store.specs.declared.Write.{Write}
 
 -- 'All links together hold at most 64 writes': those that the head has applied and the tail has not
 unfoldable pub linkedWrites : List ℕ → ℕ
 linkedWrites s = appliedBy s (headOf s) - appliedBy s (tailOf s)
 
--- a stamped write is 'dropped if that replica is gone, if the stamp is not above its highest, or if the links hold 64'; in a state that no run
--- reaches, also if the replica's log can grow no more
+-- a stamped write is dropped 'if the stamp is not above its highest, or if the links hold 64'; in a state that no run reaches, also if the replica's log can grow no
+-- more
 unfoldable pub accepts : List ℕ → ℕ → ℕ → Bool
 accepts s r stamp =
-    cond (isLive s r)
-    (cond (isAbove stamp (highestOf s r)) (cond (leb limits.linked (linkedWrites s)) false (ltb (appliedBy s r) limits.lastPosition)) false)
-    false
+    cond (isAbove stamp (highestOf s r)) (cond (leb limits.linked (linkedWrites s)) false (ltb (appliedBy s r) limits.lastPosition)) false
 
 -- the position after this one; the last stays
 unfoldable pub nextPosition : ℕ → ℕ

@@ -6,8 +6,8 @@ use limits::LAST_POSITION;
 use limits::Number;
 use limits::Object;
 use limits::Position;
-use limits::Replica;
 use limits::Stamp;
+use limits::Table;
 use store::CELLS;
 use store::Write;
 
@@ -23,12 +23,9 @@ fn linked(cells: &[u32; CELLS]) -> Position
 }
 
 // Whether the replica takes a write with this stamp; if not, the write is dropped.
-pub fn accepts(cells: &[u32; CELLS], r: Replica, stamp: Stamp) -> bool
+pub fn accepts(cells: &[u32; CELLS], r: Table, stamp: Stamp) -> bool
     ensures { λ x. ⌜ x ≡ accepts (now (cells .entry)) r stamp ⌝ }
 {
-    if !chain::is_live(cells, r) {
-        return false;
-    }
     if !stamp::above(stamp, store::highest(cells, r)) {
         return false;
     }
@@ -48,7 +45,7 @@ fn next_position(p: Position) -> Position
 }
 
 // The replica applies a write.
-pub fn apply(cells: &mut [u32; CELLS], r: Replica, w: Write)
+pub fn apply(cells: &mut [u32; CELLS], r: Table, w: Write)
     ensures { λ _. ⌜ now (cells .exit) ≡ applying (now (cells .entry)) r w ⌝ }
 {
     let highest = stamp::larger(store::highest(cells, r), w.stamp);
@@ -58,7 +55,7 @@ pub fn apply(cells: &mut [u32; CELLS], r: Replica, w: Write)
 }
 
 // The replica applies a stamped write and puts it in the link to the next one.
-pub fn take(cells: &mut [u32; CELLS], r: Replica, w: Write)
+pub fn take(cells: &mut [u32; CELLS], r: Table, w: Write)
     ensures { λ _. ⌜ now (cells .exit) ≡ taking (now (cells .entry)) r w ⌝ }
 {
     let p = store::applied(cells, r);
@@ -67,7 +64,7 @@ pub fn take(cells: &mut [u32; CELLS], r: Replica, w: Write)
 }
 
 // How many writes the link into this place holds, for the replica there.
-pub fn pending(cells: &[u32; CELLS], place: usize, r: Replica) -> Position
+pub fn pending(cells: &[u32; CELLS], place: usize, r: Table) -> Position
     ensures { λ x. ⌜ x ≡ pendingAt (now (cells .entry)) place r ⌝ }
 {
     if place == 0 {
@@ -82,14 +79,14 @@ pub fn pending(cells: &[u32; CELLS], place: usize, r: Replica) -> Position
 }
 
 // The oldest write of the replica's incoming link.
-pub fn oldest(cells: &[u32; CELLS], r: Replica) -> Write
+pub fn oldest(cells: &[u32; CELLS], r: Table) -> Write
     ensures { λ x. ⌜ x ≡ oldest (now (cells .entry)) r ⌝ }
 {
     store::read_entry(cells, store::applied(cells, r))
 }
 
 // Whether the replica answers a direct read that carries this switch number and stamp.
-pub fn answers(cells: &[u32; CELLS], r: Replica, o: Object, number: Number, carried: Stamp) -> bool
+pub fn answers(cells: &[u32; CELLS], r: Table, o: Object, number: Number, carried: Stamp) -> bool
     ensures { λ x. ⌜ x ≡ answersDirect (now (cells .entry)) r o number carried ⌝ }
 {
     if store::permitted(cells, r) != number as u32 {

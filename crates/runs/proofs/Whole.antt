@@ -1,4 +1,4 @@
--- How long the output is: 2,359,296 bytes are room for that of any input.
+-- How long the output is: 3,014,656 bytes are room for that of any input.
 use mathlib.Core.Path.{_≡_, refl}
 use mathlib.Core.Logic.{inl, inr}
 use mathlib.Core.Bool.{Bool, true, false, cond}
@@ -44,15 +44,15 @@ begins-short m input = go (ltb limits.input (length input))
     go true = refusal-length _ _
     go false = first-short m (nextAt input 0)
 
--- each record of the input is at least four bytes long, and the line of a malformed one is the last
-lines-short : (k : ℕ) (input : List ℕ) (u : Standing) → u .at ≤ length input → 4 * length (joined (linesFrom k input u)) ≤ longest * (length input - u .at) + 4 * longest
+-- each record of the input is at least three bytes long, and the line of a malformed one is the last
+lines-short : (k : ℕ) (input : List ℕ) (u : Standing) → u .at ≤ length input → 3 * length (joined (linesFrom k input u)) ≤ longest * (length input - u .at) + 3 * longest
 unfolding linesFrom joined nextPrinted
 lines-short zero input u within = omega arith
 lines-short (suc k) input u within = go (readNext input (u .over) (u .at)) refl (lines-short k input)
   where
     go : (f : Next) → readNext input (u .over) (u .at) ≡ f
-        → ((v : Standing) → v .at ≤ length input → 4 * length (joined (linesFrom k input v)) ≤ longest * (length input - v .at) + 4 * longest)
-        → 4 * length (continued u f .line ++ joined (linesFrom k input (continued u f .then))) ≤ longest * (length input - u .at) + 4 * longest
+        → ((v : Standing) → v .at ≤ length input → 3 * length (joined (linesFrom k input v)) ≤ longest * (length input - v .at) + 3 * longest)
+        → 3 * length (continued u f .line ++ joined (linesFrom k input (continued u f .then))) ≤ longest * (length input - u .at) + 3 * longest
     go (Next.Record x n) e later =
         let p = read-ahead input (u .over) (u .at) n x e in
         omega (arith, length-append (continued u (Next.Record x n) .line) (joined (linesFrom k input (continued u (Next.Record x n) .then))), line-short u (Next.Record x n), later (continued u (Next.Record x n) .then) (p .1), p .0, p .1)
@@ -61,15 +61,15 @@ lines-short (suc k) input u within = go (readNext input (u .over) (u .at)) refl 
         rw (over-prints k input (continued u Next.Malformed .then) refl, append-nil (continued u Next.Malformed .line))
         (omega (arith, line-short u Next.Malformed))
 
--- 2,359,296 BYTES ARE ROOM FOR THE OUTPUT OF ANY INPUT
-pub printed-short : (input : List ℕ) → length (printed input) ≤ 2359296
+-- 3,014,656 BYTES ARE ROOM FOR THE OUTPUT OF ANY INPUT
+pub printed-short : (input : List ℕ) → length (printed input) ≤ 3014656
 unfolding printed linesOn joined firstPrinted stopped
 printed-short input = go (ltb limits.input (length input)) refl
   where
     at-first : Bool → Printed
     at-first t = cond t (stopped untouched (noLine 0 (refusalNumber InputTooLong))) (firstRead untouched (nextAt input 0))
 
-    go : (t : Bool) → ltb limits.input (length input) ≡ t → length (at-first t .line ++ joined (linesFrom (length input) input (at-first t .then))) ≤ 2359296
+    go : (t : Bool) → ltb limits.input (length input) ≡ t → length (at-first t .line ++ joined (linesFrom (length input) input (at-first t .then))) ≤ 3014656
     go true e = rw (over-prints (length input) input (at-first true .then) refl) (simp length-append (omega (arith, refusal-length 0 (refusalNumber InputTooLong))))
     go false e = elim (read-ahead-first untouched input (nextAt input 0) refl) [
       | inl o ↦ rw (over-prints (length input) input (at-first false .then) o) (simp length-append (omega (arith, first-short untouched (nextAt input 0))))

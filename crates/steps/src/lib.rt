@@ -1,11 +1,15 @@
 // Every step but the delivery of a packet and the beginning of an operation: crates/packet_delivery and crates/begins have those.
 ghost use mathlib.Core.Path.{_≡_};
 ghost use Prim.Native.Nat.{_<_};
-ghost use Rattle.protocol.specs.Steps.{lost, copied, repeated, sending, advancing, replacing, telling, removing, givingUp};
+ghost use Rattle.replicas.specs.Replicas.{applying};
+ghost use Rattle.joins.specs.{handingOn};
+ghost use Rattle.protocol.specs.Steps.{lost, copied, repeated, sending, advancing, replacing, telling, removing, joining, copyingOn, givingUp};
 use limits::CONTEXTS;
 use limits::Number;
 use limits::Operation;
+use limits::REPLICAS;
 use limits::Replica;
+use limits::Table;
 use protocol::Decision;
 use protocol::Message;
 use protocol::Refusal;
@@ -65,6 +69,14 @@ fn send(w: Write) -> Edit
     )
 }
 
+// The tail applies a write, and a newcomer that has its copy of the object gets it too.
+fn apply_at_tail(store: &mut [u32; store::CELLS], t: Table, w: Write)
+    ensures { λ _. ⌜ now (store .exit) ≡ handingOn (applying (now (store .entry)) t w) w ⌝ }
+{
+    replicas::apply(&mut *store, t, w);
+    joins::hand_on(&mut *store, w);
+}
+
 // A replica applies the oldest write of its incoming link.
 pub fn advance(store: &mut [u32; store::CELLS], held: usize, r: Replica) -> Decision
     ensures { λ d. ⌜ (d ≡ advancing (now (store .entry)) held r .decision)
@@ -75,18 +87,19 @@ pub fn advance(store: &mut [u32; store::CELLS], held: usize, r: Replica) -> Deci
     if n <= place {
         return decisions::refuse(Refusal::NotLive);
     }
-    if replicas::pending(store, place, r) == 0 {
+    let t = chain::member(store, place);
+    if replicas::pending(store, place, t) == 0 {
         return decisions::refuse(Refusal::NoLinkedWrite);
     }
-    let w = replicas::oldest(store, r);
-    if r != chain::tail(store) {
-        replicas::apply(&mut *store, r, w);
+    let w = replicas::oldest(store, t);
+    if place + 1 != n {
+        replicas::apply(&mut *store, t, w);
         return decisions::done(decisions::no_edit());
     }
     if decisions::is_overfull(held, 0, 2) {
         return decisions::refuse(Refusal::WaitingFull);
     }
-    replicas::apply(&mut *store, r, w);
+    apply_at_tail(&mut *store, t, w);
     decisions::done(send(w))
 }
 
@@ -107,10 +120,13 @@ pub fn tell(switch: &[u32; switch::CELLS], store: &mut [u32; store::CELLS], r: R
     ensures { λ d. ⌜ (d ≡ telling (now (switch .entry)) (now (store .entry)) r .decision)
         × (now (store .exit) ≡ telling (now (switch .entry)) (now (store .entry)) r .store) ⌝ }
 {
-    if !chain::is_live(store, r) {
+    let n = chain::count(store);
+    let place = chain::place(store, r);
+    if n <= place {
         return decisions::refuse(Refusal::NotLive);
     }
-    chain::permit(&mut *store, r, cells::number(switch));
+    let t = chain::member(store, place);
+    chain::permit(&mut *store, t, cells::number(switch));
     decisions::done(decisions::no_edit())
 }
 
@@ -118,13 +134,14 @@ pub fn remove(store: &mut [u32; store::CELLS], r: Replica) -> Decision
     ensures { λ d. ⌜ (d ≡ removing (now (store .entry)) r .decision)
         × (now (store .exit) ≡ removing (now (store .entry)) r .store) ⌝ }
 {
-    if !chain::is_live(store, r) {
+    let n = chain::count(store);
+    if n <= chain::place(store, r) {
         return decisions::refuse(Refusal::NotLive);
     }
-    if chain::count(store) <= 1 {
+    if n <= 1 {
         return decisions::refuse(Refusal::LastReplica);
     }
-    chain::remove(&mut *store, r);
+    joins::remove(&mut *store, r);
     decisions::done(decisions::no_edit())
 }
 
@@ -135,5 +152,33 @@ pub fn give_up(opens: &mut [u32; operations::CELLS], o: Operation) -> Decision
     if !operations::close(&mut *opens, o) {
         return decisions::refuse(Refusal::NotOpen);
     }
+    decisions::done(decisions::no_edit())
+}
+
+// A replica begins to join.
+pub fn join(store: &mut [u32; store::CELLS]) -> Decision
+    ensures { λ d. ⌜ (d ≡ joining (now (store .entry)) .decision) × (now (store .exit) ≡ joining (now (store .entry)) .store) ⌝ }
+{
+    if joins::is_full(store) {
+        return decisions::refuse(Refusal::ChainFull);
+    }
+    if joins::is_joining(store) {
+        return decisions::refuse(Refusal::JoinUnderWay);
+    }
+    joins::begin(&mut *store);
+    decisions::done(decisions::no_edit())
+}
+
+// The next objects are copied to the replica that joins.
+pub fn copy_on(store: &mut [u32; store::CELLS]) -> Decision
+    ensures { λ d. ⌜ (d ≡ copyingOn (now (store .entry)) .decision) × (now (store .exit) ≡ copyingOn (now (store .entry)) .store) ⌝ }
+{
+    if !joins::is_joining(store) {
+        return decisions::refuse(Refusal::NoJoin);
+    }
+    if REPLICAS <= chain::count(store) {
+        return decisions::refuse(Refusal::ChainFull);
+    }
+    joins::copy(&mut *store);
     decisions::done(decisions::no_edit())
 }

@@ -1,13 +1,14 @@
 -- The store that a caller lends: the chain's order, what each replica keeps, and the writes that stand in the links. Where each thing lies, and what is
 -- read there.
 use mathlib.Core.List.{List}
-use Prim.Native.Nat.{ℕ, _+_, _*_, _%_, min}
+use Prim.Native.Nat.{ℕ, _+_, _*_, _/_, _%_, min}
 use lib.ListN.{getD, set}
 use Rattle.limits.specs as limits
 use Rattle.lists.specs.{listOf}
 use Rattle.store.specs.declared.Write.{Write}
 
--- how many replicas are live, then the replica at each chain place
+-- how many replicas are live, then the replica at each chain place: inside the store a replica is known by its table, 1 to 8, and its number, by which packets and steps
+-- name it, stands beside the table (Req 04)
 abbrev pub liveCell : ℕ
 liveCell = 0
 
@@ -35,9 +36,16 @@ valueCell row o = 289 + (row * limits.objects + o % limits.objects)
 unfoldable pub stampCell : ℕ → ℕ → ℕ
 stampCell row o = 8481 + (row * limits.objects + o % limits.objects)
 
+-- Req 04: the last replica number given; and one more than the copies made while a replica joins, 0 while none does
+abbrev pub lastNumberCell : ℕ
+lastNumberCell = 16673
+
+abbrev pub joinCell : ℕ
+joinCell = 16674
+
 -- shut, so that no check counts to it
 unfoldable pub storeCells : ℕ
-storeCells = 16673
+storeCells = 16675
 
 -- ---- what is read
 
@@ -45,15 +53,18 @@ storeCells = 16673
 unfoldable pub liveCount : List ℕ → ℕ
 liveCount s = min limits.replicas (getD s liveCell 0)
 
--- a replica's number has 8 bits
+-- the table of the replica at a place, and its number; each has 8 bits
 unfoldable pub orderAt : List ℕ → ℕ → ℕ
 orderAt s place = getD s (orderCell place) 0 % 256
 
--- the live replicas in chain order, the head first
+unfoldable pub numberAt : List ℕ → ℕ → ℕ
+numberAt s place = getD s (orderCell place) 0 / 256 % 256
+
+-- the tables of the live replicas in chain order, the head's first
 unfoldable pub members : List ℕ → List ℕ
 members s = listOf (orderAt s) (liveCount s)
 
--- each replica number, 1 to 8, has a row of its own
+-- each table, 1 to 8, has a row of its own
 unfoldable pub rowOf : ℕ → ℕ
 rowOf r = r % limits.replicas
 

@@ -7,8 +7,8 @@ use limits::OBJECTS;
 use limits::Object;
 use limits::Operation;
 use limits::Position;
-use limits::Replica;
 use limits::Stamp;
+use limits::Table;
 use limits::Value;
 
 // Where each thing lies in the store: specs/Lib.antt has the same places.
@@ -28,7 +28,11 @@ pub const VALUES: usize = 289;
 
 pub const STAMPS: usize = 8481;
 
-pub const CELLS: usize = 16673;
+pub const LAST_NUMBER: usize = 16673;
+
+pub const JOIN: usize = 16674;
+
+pub const CELLS: usize = 16675;
 
 // A write of the log, with the stamp that the switch gave it.
 pub struct Write {
@@ -38,19 +42,19 @@ pub struct Write {
     pub stamp: Stamp,
 }
 
-pub fn row(r: Replica) -> usize
+pub fn row(r: Table) -> usize
     ensures { λ x. ⌜ (x ≡ rowOf r) × (x < 8) ⌝ }
 {
     (r % 8) as usize
 }
 
-fn value_cell(r: Replica, o: Object) -> usize
+fn value_cell(r: Table, o: Object) -> usize
     ensures { λ x. ⌜ (x ≡ valueCell (rowOf r) o) × (x < 8481) ⌝ }
 {
     VALUES + (row(r) * OBJECTS + (o % 1024) as usize)
 }
 
-fn stamp_cell(r: Replica, o: Object) -> usize
+fn stamp_cell(r: Table, o: Object) -> usize
     ensures { λ x. ⌜ (x ≡ stampCell (rowOf r) o) × (x < 16673) ⌝ }
 {
     STAMPS + (row(r) * OBJECTS + (o % 1024) as usize)
@@ -65,7 +69,7 @@ fn entry_cell(field: usize, p: Position) -> usize
 
 // ---- what each replica keeps
 
-pub fn highest(cells: &[u32; CELLS], r: Replica) -> Stamp
+pub fn highest(cells: &[u32; CELLS], r: Table) -> Stamp
     ensures { λ x. ⌜ x ≡ highestOf (now (cells .entry)) r ⌝ }
 {
     let i = HIGHEST + row(r);
@@ -73,21 +77,21 @@ pub fn highest(cells: &[u32; CELLS], r: Replica) -> Stamp
 }
 
 // The switch number that it permits, as the cell has it.
-pub fn permitted(cells: &[u32; CELLS], r: Replica) -> u32
+pub fn permitted(cells: &[u32; CELLS], r: Table) -> u32
     ensures { λ x. ⌜ x ≡ permittedBy (now (cells .entry)) r ⌝ }
 {
     let i = PERMITS + row(r);
     cells[i]
 }
 
-pub fn applied(cells: &[u32; CELLS], r: Replica) -> Position
+pub fn applied(cells: &[u32; CELLS], r: Table) -> Position
     ensures { λ x. ⌜ x ≡ appliedBy (now (cells .entry)) r ⌝ }
 {
     let i = APPLIED + row(r);
     cells[i]
 }
 
-pub fn raise(cells: &mut [u32; CELLS], r: Replica, highest: Stamp, applied: Position)
+pub fn raise(cells: &mut [u32; CELLS], r: Table, highest: Stamp, applied: Position)
     ensures { λ _. ⌜ now (cells .exit) ≡ raised (now (cells .entry)) r highest applied ⌝ }
 {
     let i = row(r);
@@ -97,21 +101,21 @@ pub fn raise(cells: &mut [u32; CELLS], r: Replica, highest: Stamp, applied: Posi
 
 // ---- tables
 
-pub fn read_value(cells: &[u32; CELLS], r: Replica, o: Object) -> Value
+pub fn read_value(cells: &[u32; CELLS], r: Table, o: Object) -> Value
     ensures { λ x. ⌜ x ≡ valueAt (now (cells .entry)) r o ⌝ }
 {
     let i = value_cell(r, o);
     cells[i]
 }
 
-pub fn read_stamp(cells: &[u32; CELLS], r: Replica, o: Object) -> Stamp
+pub fn read_stamp(cells: &[u32; CELLS], r: Table, o: Object) -> Stamp
     ensures { λ x. ⌜ x ≡ stampAt (now (cells .entry)) r o ⌝ }
 {
     let i = stamp_cell(r, o);
     cells[i]
 }
 
-pub fn put_write(cells: &mut [u32; CELLS], r: Replica, w: Write)
+pub fn put_write(cells: &mut [u32; CELLS], r: Table, w: Write)
     ensures { λ _. ⌜ now (cells .exit) ≡ tabled (now (cells .entry)) r w ⌝ }
 {
     let i = value_cell(r, w.object);

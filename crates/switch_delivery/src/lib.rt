@@ -30,7 +30,7 @@ fn stamp_on(
         value: v,
         stamp,
     };
-    decisions::pass_on(at, Message::StampedWrite(chain::head(store), w))
+    decisions::pass_on(at, Message::StampedWrite(chain::head_number(store), w))
 }
 
 pub fn unstamped_write(
@@ -65,7 +65,10 @@ pub fn switch_read(
 {
     let mark = cells::lookup(switch, x);
     if !cells::is_direct(switch) {
-        return decisions::pass_on(at, Message::NormalRead(chain::tail(store), o, x, mark));
+        return decisions::pass_on(
+            at,
+            Message::NormalRead(chain::tail_number(store), o, x, mark),
+        );
     }
     if mark == 0 {
         let to = chain::choose(store, choice);
@@ -74,7 +77,10 @@ pub fn switch_read(
             Message::DirectRead(to, cells::number(switch), cells::committed(switch), o, x),
         );
     }
-    decisions::pass_on(at, Message::NormalRead(chain::tail(store), o, x, mark))
+    decisions::pass_on(
+        at,
+        Message::NormalRead(chain::tail_number(store), o, x, mark),
+    )
 }
 
 pub fn complete(switch: &mut [u32; switch::CELLS], at: usize, x: Object, t: Stamp) -> Decision

@@ -9,7 +9,7 @@ use Rattle.switch.specs.Numbers.{marksIn}
 use Rattle.waiting.specs.Waiting.{held}
 use Rattle.protocol.specs.declared.Refusal.the-variants.{Format, InputTooLong}
 use Rattle.protocol.specs.declared.Step.{Step}
-use Rattle.protocol.specs.declared.Step.the-variants.{Start, BeginRead, BeginWrite, Deliver, Lose, Repeat, Advance, Replace, Tell, Remove, GiveUp, BeginContext}
+use Rattle.protocol.specs.declared.Step.the-variants.{Start, BeginRead, BeginWrite, Deliver, Lose, Repeat, Advance, Replace, Tell, Remove, GiveUp, BeginContext, Join, Copy}
 use Rattle.protocol.specs.Answers.{refusalNumber}
 use Rattle.protocol.specs.Steps.{Machine, answerTo, after, startRefused, startAnswer, afterStart}
 use Rattle.records.specs.declared.Next.{Next}
@@ -50,6 +50,8 @@ replicasOf (Tell r) = 0
 replicasOf (Remove r) = 0
 replicasOf (GiveUp o) = 0
 replicasOf (BeginContext x) = 0
+replicasOf Join = 0
+replicasOf Copy = 0
 
 -- nothing is run: the run is over, and what is lent is as it was
 unfoldable pub stopped : Machine → List ℕ → Printed

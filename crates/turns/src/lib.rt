@@ -196,6 +196,8 @@ fn replicas_of(x: Step) -> u8
         Step::Remove(r) => 0,
         Step::GiveUp(o) => 0,
         Step::BeginContext(x) => 0,
+        Step::Join => 0,
+        Step::Copy => 0,
     }
 }
 

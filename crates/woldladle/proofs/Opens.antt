@@ -17,14 +17,14 @@ use Rattle.contexts.specs.{contextOf, mapped, areObjects, areDifferent, isCount
 use Rattle.contexts.proofs.Places.{count-some}
 use Rattle.contexts.proofs.Rows.{opens-holding, sized-holding, opens-freeing, sized-freeing}
 use Rattle.store.specs.{valueAt}
-use Rattle.chain.specs.{isLive}
+use Rattle.chain.specs.{isMember, isTail, tableOf}
 use Rattle.waiting.specs.declared.Packet.{Packet}
 use Rattle.waiting.specs.Waiting.{lookAt}
 use Rattle.protocol.specs.declared.Answer.the-variants.{Finished, FinishedContext}
 use Rattle.protocol.specs.declared.Message.{Message}
 use Rattle.protocol.specs.declared.Message.the-variants.{UnstampedWrite, SwitchRead, StampedWrite, DirectRead, NormalRead, Completion, Reply, ContextRead, DirectContext, NormalContext, ContextReply, Unknown}
 use Rattle.protocol.specs.declared.Step.{Step}
-use Rattle.protocol.specs.declared.Step.the-variants.{Start, BeginRead, BeginWrite, Deliver, Lose, Repeat, Advance, Replace, Tell, Remove, GiveUp, BeginContext}
+use Rattle.protocol.specs.declared.Step.the-variants.{Start, BeginRead, BeginWrite, Deliver, Lose, Repeat, Advance, Replace, Tell, Remove, GiveUp, BeginContext, Join, Copy}
 use Rattle.protocol.specs.Messages.{messageOf, isUnstamped, isOfContext}
 use Rattle.protocol.specs.Decisions.{Given, Outcome, Opened, overfull}
 use Rattle.protocol.specs.Contexts.{released, leaving, droppingRow, goesDirectly, contextRead, answersContext, answeringContext, directContext, normalContext, contextReply}
@@ -151,11 +151,14 @@ module _ (g : Given) (c : Counted (g .opens)) where
   counted-message at choice (ContextRead o r) =
       both Keeps (isContext (contextAt (g .opens) r)) (both Keeps (goesDirectly (g .switch) (contextAt (g .opens) r)) c c) (counted-dropped at r)
   counted-message at choice (DirectContext q number t o r) =
-      both Keeps (isLive (g .store) q)
+      both Keeps (isMember (g .store) q)
       (both Keeps (isContext (contextAt (g .opens) r))
-      (both Keeps (answersContext (g .store) q number t (contextAt (g .opens) r)) (counted-answered at q o r) c) (counted-dropped at r)) (counted-dropped at r)
+      (both Keeps (answersContext (g .store) (tableOf (g .store) q) number t (contextAt (g .opens) r)) (counted-answered at (tableOf (g .store) q) o r) c)
+      (counted-dropped at r)) (counted-dropped at r)
   counted-message at choice (NormalContext q o r) =
-      both Keeps (isLive (g .store) q) (both Keeps (isContext (contextAt (g .opens) r)) (counted-answered at q o r) (counted-dropped at r)) (counted-dropped at r)
+      both Keeps (isMember (g .store) q)
+      (both Keeps (isContext (contextAt (g .opens) r)) (both Keeps (isTail (g .store) q) (counted-answered at (tableOf (g .store) q) o r) c) (counted-dropped at r))
+      (counted-dropped at r)
   counted-message at choice (ContextReply o r) =
       by-test Keeps (isOpen (g .opens) o)
       (λ still. both Keeps (isCount (contextAt (g .opens) r .count)) (counted-freeing (counted-closing c o still) r) (counted-dropped at r)) (λ shut. counted-dropped at r)
@@ -177,6 +180,8 @@ module _ (g : Given) (c : Counted (g .opens)) where
   counted-decided p (Remove r) = c
   counted-decided p (GiveUp o) = by-test (λ (u : Opened). Counted (u .opens)) (isOpen (g .opens) o) (counted-closing c o) (λ shut. c)
   counted-decided p (BeginContext x) = counted-context c (g .held) x
+  counted-decided p Join = c
+  counted-decided p Copy = c
 
 -- every step keeps it
 pub counted-step : (m : Machine) (x : Step) → Counted (m .opens) → Counted (after m x .opens)

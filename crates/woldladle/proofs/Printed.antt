@@ -15,7 +15,7 @@ use Rattle.contexts.specs.{placesOf}
 use Rattle.protocol.specs.declared.Answer.{Answer}
 use Rattle.protocol.specs.declared.Answer.the-variants.{Done, Finished, FinishedContext, Refused}
 use Rattle.protocol.specs.declared.Refusal.{Refusal}
-use Rattle.protocol.specs.declared.Refusal.the-variants.{Format, Replicas, ObjectNumber, OperationsUsedUp, OpenFull, WaitingFull, NoPacket, UnstampedRepeat, NotLive, NoLinkedWrite, SwitchNumber, LastReplica, NotOpen, InputTooLong, BufferTooShort, SameObject}
+use Rattle.protocol.specs.declared.Refusal.the-variants.{Format, Replicas, ObjectNumber, OperationsUsedUp, OpenFull, WaitingFull, NoPacket, UnstampedRepeat, NotLive, NoLinkedWrite, SwitchNumber, LastReplica, NotOpen, InputTooLong, BufferTooShort, SameObject, ChainFull, JoinUnderWay, NoJoin}
 use Rattle.protocol.specs.declared.Step.{Step}
 use Rattle.protocol.specs.Answers.{refusalNumber}
 use Rattle.protocol.specs.Steps.{Machine, answerTo, after, steppedBy, startRefused, startAnswer}
@@ -50,6 +50,9 @@ numbered NotOpen = refl
 numbered InputTooLong = refl
 numbered BufferTooShort = refl
 numbered SameObject = refl
+numbered ChainFull = refl
+numbered JoinUnderWay = refl
+numbered NoJoin = refl
 
 -- an answer's numbers give its line, where it finishes no operation 0
 line-of : (k : ℕ) (a : Answer) (waiting marks : ℕ) → ((o v f : ℕ) → a ≡ Finished o v f → 1 ≤ o) →

@@ -117,7 +117,8 @@ fn warn_of_gaps(task: &Task, tally: &Tally) {
         println!("refusal {number} never occurred");
     }
     let ages = [("old", tally.old), ("new", tally.new)];
-    for (word, times) in ages.into_iter().chain(tally.contexts.rows()) {
+    let rows = tally.contexts.rows().into_iter().chain(tally.joins.rows());
+    for (word, times) in ages.into_iter().chain(rows) {
         if times == 0 {
             println!("{word} never occurred");
         }

@@ -2,7 +2,7 @@
 
 use super::mood::*;
 use super::Random;
-use crate::model::{Few, Model, Objects, Packet, Stamp, Step, FULL, MOST, REPLICAS};
+use crate::model::{Few, Model, Objects, Packet, Stamp, Step, FULL, LAST_NUMBER, MOST, REPLICAS};
 use crate::records::{append, Record, LONGEST};
 
 /// Writes one file: the mood, the model as it stands, the bytes so far.
@@ -14,7 +14,7 @@ pub struct Author {
 }
 
 /// Can whole records fill what is left after one of this size? They have 4, 5,
-/// 6 or 9 bytes; those with several objects are not counted on.
+/// 6 or 9 bytes; those with several objects or none are not counted on.
 fn leaves_room(left: usize, size: usize) -> bool {
     let after = left.checked_sub(size);
     after.is_some_and(|after| !matches!(after, 1..=3 | 7))
@@ -113,15 +113,22 @@ impl Author {
             drawn -= weight;
         }
         if self.random.chance(self.mood.wild) {
-            let others = match self.mood.weights[CONTEXT] {
-                0 => ACTIONS - 1,
-                _ => ACTIONS,
-            };
+            let others = self.known_actions();
             let other = self.random.0 as usize % others;
             let action = self.random.one_of(&[action, other]);
             return self.act_wildly(action);
         }
         self.act(action)
+    }
+
+    /// The actions that a wild step may take: reads of contexts and joins only
+    /// where the mood knows them.
+    fn known_actions(&self) -> usize {
+        match (self.mood.weights[CONTEXT], self.mood.weights[JOIN]) {
+            (0, 0) => CONTEXT,
+            (_, 0) => JOIN,
+            _ => ACTIONS,
+        }
     }
 
     /// The mood's weights, moved so that the run stays where the mood wants
@@ -178,8 +185,21 @@ impl Author {
             weights[READ..=WRITE].fill(0);
             weights[CONTEXT] = 0;
         }
+        let joining = model.newcomer().is_some();
         if model.live().len() == 1 {
-            weights[REMOVE] = 0;
+            weights[REMOVE] = match joining {
+                true => weights[REMOVE] / 8,
+                false => 0,
+            };
+        }
+        let full = model.live().len() == usize::from(REPLICAS);
+        weights[JOIN] /= match (joining, model.given() == LAST_NUMBER) {
+            (true, true) => 5,
+            (false, false) if !full => 1,
+            _ => 50,
+        };
+        if !joining {
+            weights[COPY] /= 100;
         }
         weights
     }
@@ -212,6 +232,8 @@ impl Author {
             CONTEXT => Step::Context {
                 objects: self.context(),
             },
+            JOIN => Step::Join,
+            COPY => Step::Copy,
             _ => Step::GiveUp {
                 operation: self.open_operation(),
             },
@@ -286,9 +308,25 @@ impl Author {
         self.random.below(self.model.waiting().max(1)) as u16
     }
 
+    /// The position that the mood wants; most often another one for a normal
+    /// read that a patient mood holds back.
+    fn position(&mut self) -> u16 {
+        let position = self.hasty_position();
+        if self.mood.patient == 0 || self.model.newcomer().is_none() {
+            return position;
+        }
+        let normal = |p: &Packet| matches!(p, Packet::NormalRead { .. });
+        let packet = self.model.packets().get(usize::from(position));
+        if packet.is_some_and(normal) && self.random.chance(self.mood.patient) {
+            let other = self.first(|p| !normal(p));
+            return other.unwrap_or(position);
+        }
+        position
+    }
+
     /// The first unstamped write or the oldest packet as often as the mood
     /// wants, else any.
-    fn position(&mut self) -> u16 {
+    fn hasty_position(&mut self) -> u16 {
         if self.mood.mischief {
             return self.mischievous_position();
         }
@@ -519,9 +557,8 @@ impl Author {
 
     /// A step with fields at their limits.
     fn act_wildly(&mut self, action: usize) -> Step {
+        let replica = self.wild_replica();
         let random = &mut self.random;
-        let n = self.mood.replicas;
-        let replica = random.one_of(&[0, 1, 2, n, n.wrapping_add(1), 7, 8, 9, 128, 255]);
         let waiting = self.model.waiting() as u16;
         let last = waiting.saturating_sub(1);
         let position = random.one_of(&[0, last, waiting, 62, 63, 64, 255, 256, 65_535]);
@@ -545,7 +582,25 @@ impl Author {
             CONTEXT => Step::Context {
                 objects: self.wild_context(),
             },
+            JOIN => Step::Join,
+            COPY => Step::Copy,
             _ => Step::GiveUp { operation },
+        }
+    }
+
+    /// A number at a limit where a live replica's is wanted; while a join is
+    /// under way the newcomer's or the tail's more often than not.
+    fn wild_replica(&mut self) -> u8 {
+        let n = self.mood.replicas;
+        let limit = [0, 1, 2, n, n.wrapping_add(1), 7, 8, 9, 128, 255];
+        let limit = self.random.one_of(&limit);
+        match (self.model.newcomer(), self.model.live().last()) {
+            (Some(newcomer), Some(tail)) => {
+                let next = newcomer.saturating_add(1);
+                let near = [limit, newcomer, newcomer, newcomer, next, tail];
+                self.random.one_of(&near)
+            }
+            _ => limit,
         }
     }
 

@@ -15,8 +15,10 @@ pub const TELL: usize = 7;
 pub const REMOVE: usize = 8;
 pub const GIVE_UP: usize = 9;
 pub const CONTEXT: usize = 10;
+pub const JOIN: usize = 11;
+pub const COPY: usize = 12;
 /// How many actions there are.
-pub const ACTIONS: usize = 11;
+pub const ACTIONS: usize = 13;
 
 /// What a run tends to do.
 pub struct Mood {
@@ -45,6 +47,9 @@ pub struct Mood {
     pub rounds: bool,
     /// Of a thousand completions, those held back or lost.
     pub late: usize,
+    /// Of a thousand normal reads, those held back while a join is under way, so
+    /// that they meet a former tail.
+    pub patient: usize,
     /// The most operations begun.
     pub begins: u16,
 }
@@ -54,7 +59,7 @@ pub fn mood(kind: &str, random: &mut Random, length: usize) -> Mood {
     let mut mood = Mood {
         replicas: random.within(1, 8) as u8,
         objects: some_objects(random, 40),
-        weights: [1500, 1500, 6000, 150, 200, 3000, 4, 1500, 0, 100, 0],
+        weights: [1500, 1500, 6000, 150, 200, 3000, 4, 1500, 0, 100, 0, 0, 0],
         waiting: random.within(3, 30),
         linked: random.within(2, 12),
         open: random.within(20, 60),
@@ -64,6 +69,7 @@ pub fn mood(kind: &str, random: &mut Random, length: usize) -> Mood {
         mischief: false,
         rounds: false,
         late: 0,
+        patient: 0,
         begins: u16::MAX,
     };
     mood.weights[REMOVE] = removal_weight(length, 3);
@@ -84,6 +90,9 @@ pub fn mood(kind: &str, random: &mut Random, length: usize) -> Mood {
         "contexts" => read_contexts(&mut mood, random, length),
         "context-faults" => refuse_contexts(&mut mood, random, length),
         "small-contexts" => stay_small_with_contexts(&mut mood, random, length),
+        "joins" => join_often(&mut mood, random),
+        "join-faults" => refuse_joins(&mut mood, random),
+        "small-joins" => stay_small_with_joins(&mut mood, random, length),
         _ => {}
     }
     mood
@@ -217,7 +226,7 @@ fn stay_small(mood: &mut Mood, random: &mut Random, length: usize) {
     mood.begins = random.within(5, 8) as u16;
     mood.waiting = random.within(2, 5);
     mood.linked = 0;
-    mood.weights = [700, 450, 6000, 60, 200, 2500, 30, 2500, 0, 5, 0];
+    mood.weights = [700, 450, 6000, 60, 200, 2500, 30, 2500, 0, 5, 0, 0, 0];
     mood.weights[ADVANCE] = random.one_of(&[400, 1000, 2500]);
     mood.weights[REMOVE] = removal_weight(length, random.one_of(&[0, 1, 1]));
     mood.orderly = random.one_of(&[0, 200, 500]);
@@ -312,6 +321,67 @@ fn stay_small_with_contexts(mood: &mut Mood, random: &mut Random, length: usize)
     mood.weights[WRITE] = 300;
     mood.weights[CONTEXT] = 1200;
     mood.weights[ADVANCE] = random.one_of(&[50, 150, 400]);
+}
+
+/// Objects at both ends of what some copies copy.
+const AT_THE_ENDS: [u16; 8] = [0, 63, 64, 127, 128, 959, 960, 1023];
+
+/// Joins one after the other while reads and writes of few objects go on; they
+/// are quick or slow, and ended early often or seldom.
+fn join_often(mood: &mut Mood, random: &mut Random) {
+    mood.replicas = random.one_of(&[1, 1, 2, 2, 3, 3, 4, 6, 7, 8]);
+    mood.objects = match random.below(3) {
+        0 => AT_THE_ENDS.to_vec(),
+        _ => different_objects(random, 2, 8),
+    };
+    mood.weights[JOIN] = random.one_of(&[300, 3000]);
+    mood.weights[COPY] = random.one_of(&[1500, 4000, 20_000]);
+    mood.weights[REMOVE] = random.one_of(&[10, 60, 200, 400]);
+    mood.weights[REPLACE] = random.one_of(&[0, 4, 40]);
+    mood.weights[TELL] = random.one_of(&[600, 4000]);
+    mood.weights[CONTEXT] = random.one_of(&[0, 0, 600]);
+    mood.weights[WRITE] = random.one_of(&[300, 1500]);
+    mood.waiting = random.within(2, 20);
+    mood.linked = random.one_of(&[0, 0, 4]);
+    mood.orderly = random.one_of(&[100, 500, 900]);
+    mood.late = random.one_of(&[0, 0, 900]);
+    mood.patient = random.one_of(&[0, 800, 950]);
+    match random.below(6) {
+        0 => mood.mischief = true,
+        1 => mood.rounds = true,
+        2 => mood.waiting = random.within(61, 65),
+        3 => use_numbers_up(mood),
+        _ => {}
+    }
+}
+
+/// Joins and removals so often that a long run needs all the numbers.
+fn use_numbers_up(mood: &mut Mood) {
+    mood.weights[JOIN] = 20_000;
+    mood.weights[COPY] = 60_000;
+    mood.weights[REMOVE] = 3000;
+}
+
+/// The same with joins and copies that are refused, and with the newcomer's
+/// number where only live ones are taken.
+fn refuse_joins(mood: &mut Mood, random: &mut Random) {
+    join_often(mood, random);
+    mood.replicas = random.one_of(&[1, 2, 7, 8, 8]);
+    mood.wild = random.one_of(&[50, 400]);
+}
+
+/// Few operations on two or three objects, and so many copies that there is a
+/// whole join or several in most runs.
+fn stay_small_with_joins(mood: &mut Mood, random: &mut Random, length: usize) {
+    stay_small(mood, random, length);
+    mood.replicas = random.one_of(&[1, 1, 2, 2, 3]);
+    mood.objects = different_objects(random, 2, 3);
+    mood.begins = random.within(7, 12) as u16;
+    mood.weights[CONTEXT] = random.one_of(&[0, 0, 500]);
+    mood.weights[JOIN] = 4000;
+    mood.weights[COPY] = random.one_of(&[3000, 8000, 20_000]);
+    mood.weights[REMOVE] = removal_weight(length, random.one_of(&[0, 1, 3, 6]));
+    mood.patient = random.one_of(&[0, 800, 950]);
 }
 
 #[cfg(test)]

@@ -1,7 +1,10 @@
 //! The replicas and the links between them (document 01, "Parts and how big
-//! they are" and the text on removing).
+//! they are" and the text on removing; document 02, Req 04).
+
+mod newcomer;
 
 use super::{Stamp, FULL, OBJECTS};
+use newcomer::Newcomer;
 use std::collections::VecDeque;
 
 /// A write with its stamp, as a replica applies it and a link holds it.
@@ -57,9 +60,12 @@ impl Replica {
     }
 }
 
-/// The live replicas in chain order, places from 0: head first, tail last.
+/// The live replicas in chain order, places from 0: head first, tail last; the
+/// last number given to a replica; and the newcomer while a join is under way.
 pub(super) struct Chain {
     replicas: Vec<Replica>,
+    given: u8,
+    newcomer: Option<Newcomer>,
 }
 
 impl Chain {
@@ -67,6 +73,8 @@ impl Chain {
     pub fn new(n: u8) -> Self {
         Chain {
             replicas: (1..=n).map(Replica::new).collect(),
+            given: n,
+            newcomer: None,
         }
     }
 
@@ -119,7 +127,8 @@ impl Chain {
     }
 
     /// Applies a write at a place and puts it in the link to the next replica;
-    /// says whether there is none, so that this one acts as tail.
+    /// says whether there is none, so that this one acts as tail. The newcomer
+    /// hears of what the tail applies.
     pub fn apply(&mut self, place: usize, write: Write) -> bool {
         self.replicas[place].apply(write);
         match self.replicas.get_mut(place + 1) {
@@ -127,7 +136,12 @@ impl Chain {
                 next.incoming.push_back(write);
                 false
             }
-            None => true,
+            None => {
+                if let Some(newcomer) = &mut self.newcomer {
+                    newcomer.hear(write);
+                }
+                true
+            }
         }
     }
 
@@ -143,8 +157,11 @@ impl Chain {
 
     /// Tag 9. The head's outgoing link is lost, the tail's incoming link goes
     /// with it, and one between joins its links, "the outgoing link's writes
-    /// first".
+    /// first". "Removing the tail meanwhile ends the join."
     pub fn remove(&mut self, place: usize) {
+        if self.is_tail(place) {
+            self.newcomer = None;
+        }
         let gone = self.replicas.remove(place);
         if let Some(next) = self.replicas.get_mut(place) {
             if place == 0 {
@@ -152,6 +169,44 @@ impl Chain {
             } else {
                 next.incoming.extend(gone.incoming);
             }
+        }
+    }
+
+    /// The last number given to a replica, live or not.
+    pub fn given(&self) -> u8 {
+        self.given
+    }
+
+    /// The newcomer, if a join is under way.
+    pub fn newcomer(&self) -> Option<&Newcomer> {
+        self.newcomer.as_ref()
+    }
+
+    /// The same, for a program that is wrong on purpose.
+    pub fn newcomer_mut(&mut self) -> Option<&mut Newcomer> {
+        self.newcomer.as_mut()
+    }
+
+    /// Tag 12: a newcomer with "the next number never used"; nothing if all are.
+    pub fn begin_join(&mut self) {
+        if let Some(next) = self.given.checked_add(1) {
+            self.given = next;
+            self.newcomer = Some(Newcomer::new(next));
+        }
+    }
+
+    /// Tag 13: the next copy from the tail. After the last one the newcomer is
+    /// the tail. Nothing without a newcomer.
+    pub fn copy(&mut self) {
+        let (Some(mut newcomer), Some(tail)) = (self.newcomer.take(), self.replicas.last()) else {
+            return;
+        };
+        newcomer.copy_from(tail);
+        if newcomer.has_all() {
+            let next = newcomer.following(tail);
+            self.replicas.push(next);
+        } else {
+            self.newcomer = Some(newcomer);
         }
     }
 }
@@ -224,5 +279,32 @@ mod tests {
         assert_eq!(chain.accepting(1, Stamp::new(1, 64)), Some(0));
         chain.apply(0, write(64));
         assert_eq!(chain.accepting(1, Stamp::new(1, 65)), None);
+    }
+
+    #[test]
+    fn numbers_are_given_up_to_255() {
+        let mut chain = Chain::new(1);
+        for number in 2..=255 {
+            chain.begin_join();
+            assert_eq!(chain.given(), number);
+            assert_eq!(chain.newcomer().unwrap().name(), number);
+        }
+        chain.newcomer = None;
+        chain.begin_join();
+        assert!(chain.newcomer().is_none());
+        assert_eq!(chain.given(), 255);
+    }
+
+    #[test]
+    fn the_newcomer_s_link_is_empty_and_the_others_stay() {
+        let mut chain = three();
+        chain.begin_join();
+        (0..16).for_each(|_| chain.copy());
+        assert_eq!((chain.head(), chain.tail(), chain.live().len()), (1, 4, 4));
+        let lengths: Vec<usize> = chain.live().iter().map(|r| r.incoming.len()).collect();
+        assert_eq!(lengths, [0, 1, 1, 0]);
+        let oldest = chain.take_oldest(2).unwrap();
+        assert!(!chain.apply(2, oldest), "the third is no longer the tail");
+        assert_eq!(chain.take_oldest(3), Some(write(1)));
     }
 }

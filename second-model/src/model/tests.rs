@@ -1,5 +1,7 @@
-//! The rules of document 01, and of Req 01 and Req 02 of document 02, at the
-//! level of single steps, worked out by hand.
+//! The rules of document 01, and of Req 01, Req 02 and Req 04 of document 02, at
+//! the level of single steps, worked out by hand.
+
+mod joins;
 
 use super::*;
 

@@ -114,6 +114,7 @@ impl Ages {
                 carried: Some(carried),
                 ..
             }) => match model.held(to, objects.kept()[0]) {
+                Some(_) if model.live().last() != Some(to) => vec![],
                 Some(held) => self.answering((operation, carried), held.stamp),
                 None => vec!["answering: gone, with a stamp"],
             },

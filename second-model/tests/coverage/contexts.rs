@@ -80,7 +80,7 @@ pub const WANTED: [(&str, usize); 73] = [
     ("removed: a direct context waits for it", 20),
     ("removed: a normal context waits for it", 20),
     ("delivered: 60 packets of contexts wait", 5_000),
-    ("delivered: with 64 waiting", 5_000),
+    ("delivered: with 64 waiting", 4_000),
 ];
 
 type Events = Vec<&'static str>;
@@ -111,6 +111,11 @@ fn operation_of(packet: &Packet) -> Option<u16> {
         _ => return None,
     };
     (count > 1).then_some(operation)
+}
+
+/// Is this replica live and not the tail? Then it sends a normal read on.
+fn former_tail(model: &Model, name: u8) -> bool {
+    model.permits(name).is_some() && model.live().last() != Some(name)
 }
 
 /// The places of the objects of which something holds.
@@ -177,6 +182,7 @@ impl Contexts {
                 committed,
                 ..
             }) => direct(model, to, objects, switch, committed),
+            Some(Packet::NormalRead { to, .. }) if former_tail(model, to) => vec![],
             Some(Packet::NormalRead { to, way, .. }) => vec![match (model.permits(to), way) {
                 (None, Way::SentOn) => "normal: gone, sent on",
                 (None, _) => "normal: gone, sent at once",

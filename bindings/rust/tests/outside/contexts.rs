@@ -1,11 +1,10 @@
 //! Reads of several objects (document 02, Req 02): their records, refusals, ways
 //! and values.
 
-use super::{lines, step};
+use super::{deliver, done, line, lines, refused, whole};
 use second_model::generate::generate;
 use woldladle::{
-    record_length, run, write_context, write_record, Answer, Freshness, Model, Values,
-    LONGEST_LINE, LONGEST_RECORD, OUTPUT_ROOM,
+    record_length, write_context, write_record, Answer, Freshness, Model, Values, LONGEST_RECORD,
 };
 
 /// The record of a read of these objects.
@@ -25,29 +24,9 @@ fn finished(operation: u32, values: &[u32]) -> Answer {
     }
 }
 
-/// Steps that finish nothing.
-fn done(model: &mut Model, steps: &[(u8, u32, u32)]) {
-    for &(tag, first, second) in steps {
-        let answer = step(model, tag, first, second);
-        assert_eq!(answer, Answer::Done, "{tag} {first} {second}");
-    }
-}
-
 /// Begins a read of these objects.
 fn begin(model: &mut Model, objects: &[u16]) {
     assert_eq!(model.step(&record(objects)), Answer::Done, "{objects:?}");
-}
-
-/// Delivers the packet at a position, with choice 0.
-fn deliver(model: &mut Model, position: u32) -> Answer {
-    step(model, 3, position, 0)
-}
-
-/// The line of the last step.
-fn line(model: &Model, number: u32) -> String {
-    let mut line = [0; LONGEST_LINE];
-    let size = model.line(number, &mut line);
-    String::from_utf8_lossy(&line[..size]).into_owned()
 }
 
 /// A write, from its begin to its completion, while other packets may wait; the
@@ -147,15 +126,6 @@ fn tag_11_has_no_record_of_two_numbers() {
 }
 
 // ---- refusals
-
-/// The step is refused and changes no byte.
-fn refused(model: &mut Model, record: &[u8], refusal: u8) {
-    let before = model.bytes();
-    let answer = model.step(record);
-    assert_eq!(answer, Answer::Refused(refusal), "{record:?}");
-    assert!(model.bytes() == before, "{record:?}");
-    assert_eq!(line(model, 7), format!("7 no {refusal}\n"));
-}
 
 /// A record with a content of this length: objects 1, 3, 5 and so on.
 fn of_length(length: u16) -> Vec<u8> {
@@ -456,14 +426,6 @@ fn sixty_copies_finish_four_reads() {
 }
 
 // ---- whole runs
-
-/// Everything that `run` gives for a file.
-fn whole(file: &[u8]) -> Vec<u8> {
-    let mut out = vec![0; OUTPUT_ROOM];
-    let size = run(file, &mut out);
-    out.truncate(size);
-    out
-}
 
 #[test]
 fn a_whole_run_prints_the_values_joined() {

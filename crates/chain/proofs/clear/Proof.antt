@@ -8,4 +8,4 @@ unfolding emptyStore emptyCells
 returns c = simp (c .number .ensures)
 
 pub clear-spec : {M : Type 1} → statement M
-clear-spec = tie.close (tie.spec (λ c κs. search needs) (λ c. search needs) returns)
+clear-spec = tie.close (tie.spec (λ c κs. search needs) (λ c. search needs) (λ c. search needs) returns)

@@ -1,7 +1,7 @@
 -- The loop's invariant: the first i replicas are numbered.
 use mathlib.Core.Path.{_≡_, refl, sym, ap, _∙_}
 use mathlib.Core.List.{List}
-use Prim.Native.Nat.{ℕ, _+_, _-_, _≤_}
+use Prim.Native.Nat.{ℕ, _+_, _-_, _*_, _≤_}
 use native.Mathlib.Numerals.{add-one}
 use native.Mathlib.Omega.{arith}
 use lib.ListN.{set}
@@ -21,14 +21,14 @@ unfolding numbered
 loop-holds c = (refl, omega arith)
 
 -- one more is numbered
-numbered-more : (s : List ℕ) (i : ℕ) → numbered s (i + 1) ≡ set (set (numbered s i) (1 + i) (i + 1)) (17 + i) 1
+numbered-more : (s : List ℕ) (i : ℕ) → numbered s (i + 1) ≡ set (set (numbered s i) (1 + i) (257 * (i + 1))) (17 + i) 1
 unfolding numbered
 numbered-more s i = ap (numbered s) (add-one i)
 
 loop-again : tie.Need-loop-again Inv-loop μ-loop
 loop-again c =
     let turn = c .before .loop in (
-      ap (λ (l : List ℕ). set (set l (1 + turn .i) (turn .i + 1)) (17 + turn .i) 1) (turn .inv .0) ∙ sym (numbered-more _ (turn .i)),
+      ap (λ (l : List ℕ). set (set l (1 + turn .i) (257 * (turn .i + 1))) (17 + turn .i) 1) (turn .inv .0) ∙ sym (numbered-more _ (turn .i)),
       omega arith,
     )
 
@@ -45,6 +45,7 @@ number-spec =
     Inv-loop
     μ-loop
     loop-holds
+    (λ c. search needs)
     (λ c. search needs)
     (λ c. search needs)
     (λ c. search needs)

@@ -11,7 +11,7 @@ returns c = simp (← c .drop-row .ensures .0, ← c .drop-row .ensures .1, not-
 
 returns-2 : tie.Need-returns-2
 unfolding contextRead
-returns-2 c = simp (← c .pass-on .ensures, ← c .before .tail .ensures, not-true (c .before .before .before .goes-directly .result) (c .before .before .if2 .taken), ← c .before .before .before .goes-directly .ensures, not-false (c .before .before .before .before .before .is-context .result) (c .before .before .before .before .if1 .left), ← c .before .before .before .before .before .is-context .ensures, ← c .before .before .before .before .before .before .load .ensures) (refl, refl)
+returns-2 c = simp (← c .pass-on .ensures, ← c .before .tail-number .ensures, not-true (c .before .before .before .goes-directly .result) (c .before .before .if2 .taken), ← c .before .before .before .goes-directly .ensures, not-false (c .before .before .before .before .before .is-context .result) (c .before .before .before .before .if1 .left), ← c .before .before .before .before .before .is-context .ensures, ← c .before .before .before .before .before .before .load .ensures) (refl, refl)
 
 returns-3 : tie.Need-returns-3
 unfolding contextRead

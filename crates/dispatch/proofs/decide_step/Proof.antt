@@ -53,6 +53,14 @@ returns-12 : tie.Need-returns-12
 unfolding decided
 returns-12 c = rw (c .before .before .before .x12 .given .1) (leaves (c .begin-context .ensures .0) refl refl (c .begin-context .ensures .1))
 
+returns-13 : tie.Need-returns-13
+unfolding decided
+returns-13 c = rw (c .before .before .enum-told .given .1) (leaves (c .join .ensures .0) refl (c .join .ensures .1) refl)
+
+returns-14 : tie.Need-returns-14
+unfolding decided
+returns-14 c = rw (c .before .before .enum-told2 .given .1) (leaves (c .copy-on .ensures .0) refl (c .copy-on .ensures .1) refl)
+
 pub decide-step-spec : {M : Type 1} → statement M
 decide-step-spec =
     tie.close
@@ -87,6 +95,10 @@ decide-step-spec =
     (λ c κs. search needs)
     (λ c. search needs)
     (λ c κs. search needs)
+    (λ c. search needs)
+    (λ c κs. search needs)
+    (λ c. search needs)
+    (λ c κs. search needs)
     returns
     returns-2
     returns-3
@@ -98,4 +110,6 @@ decide-step-spec =
     returns-9
     returns-10
     returns-11
-    returns-12)
+    returns-12
+    returns-13
+    returns-14)

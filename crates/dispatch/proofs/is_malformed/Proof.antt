@@ -51,6 +51,14 @@ returns-12 : tie.Need-returns-12
 unfolding isMalformed
 returns-12 c = simp (c .before .before .x12 .given .1, ← c .is-naming .ensures)
 
+returns-13 : tie.Need-returns-13
+unfolding isMalformed
+returns-13 c = rw (c .enum-told .given .1)
+
+returns-14 : tie.Need-returns-14
+unfolding isMalformed
+returns-14 c = rw (c .enum-told2 .given .1)
+
 pub is-malformed-spec : {M : Type 1} → statement M
 is-malformed-spec =
     tie.close
@@ -68,6 +76,8 @@ is-malformed-spec =
     (λ c. search needs)
     (λ c. search needs)
     (λ c κs. search needs)
+    (λ c. search needs)
+    (λ c. search needs)
     returns
     returns-2
     returns-3
@@ -79,4 +89,6 @@ is-malformed-spec =
     returns-9
     returns-10
     returns-11
-    returns-12)
+    returns-12
+    returns-13
+    returns-14)

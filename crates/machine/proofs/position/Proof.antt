@@ -51,10 +51,20 @@ returns-12 : tie.Need-returns-12
 unfolding positionOf
 returns-12 c = rw (c .before .x12 .given .1)
 
+returns-13 : tie.Need-returns-13
+unfolding positionOf
+returns-13 c = rw (c .enum-told .given .1)
+
+returns-14 : tie.Need-returns-14
+unfolding positionOf
+returns-14 c = rw (c .enum-told2 .given .1)
+
 pub position-spec : {M : Type 1} → statement M
 position-spec =
     tie.close
     (tie.spec
+    (λ c. search needs)
+    (λ c. search needs)
     (λ c. search needs)
     (λ c. search needs)
     (λ c. search needs)
@@ -81,4 +91,6 @@ position-spec =
     returns-9
     returns-10
     returns-11
-    returns-12)
+    returns-12
+    returns-13
+    returns-14)

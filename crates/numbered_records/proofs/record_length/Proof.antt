@@ -2,7 +2,7 @@ use mathlib.Core.List.{List, [], _∷_}
 use Prim.Native.Nat.{ℕ, zero, suc, _+_, _≤_}
 use native.Mathlib.Omega.{arith}
 use lib.ListN.{getD}
-use borrow.Author.Tests.{le-leb, lt-leb}
+use borrow.Author.Tests.{not-false, not-true}
 use Rattle.numbered_records.specs.{recordSize}
 use Rattle.records.specs.Records.{lengths, contentLength}
 use borrow.Author.Needs.{needs}
@@ -25,19 +25,20 @@ content-short k = at-most lengths k
 
 returns : tie.Need-returns
 unfolding recordSize
-returns c = simp (← c .before .kind-of-tag .ensures, le-leb _ _ (c .if1 .taken))
+returns c = simp (← c .before .before .kind-of-tag .ensures, not-true (c .before .has-numbers .result) (c .if1 .taken), ← c .before .has-numbers .ensures)
 
 add-result : tie.Need-add-result
 add-result c = let short : c .content-length .result ≤ 23 = rw (c .content-length .ensures) (content-short _) in search (needs, short)
 
 returns-2 : tie.Need-returns-2
 unfolding recordSize
-returns-2 c = simp (← c .before .before .kind-of-tag .ensures, lt-leb _ _ (c .before .if1 .left), ← c .content-length .ensures)
+returns-2 c = simp (← c .before .before .before .kind-of-tag .ensures, not-false (c .before .before .has-numbers .result) (c .before .if1 .left), ← c .before .before .has-numbers .ensures, ← c .content-length .ensures)
 
 pub record-length-spec : {M : Type 1} → statement M
 record-length-spec =
     tie.close
     (tie.spec
+    (λ c κs. search needs)
     (λ c κs. search needs)
     returns
     (λ c κs. search needs)

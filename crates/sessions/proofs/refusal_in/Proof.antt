@@ -5,6 +5,9 @@ use Rattle.sessions.proofs.refusal_in.Tie as tie
 returns-3 : tie.Need-returns-3
 returns-3 c = rw (c .before .answer2 .given .1)
 
+returns-4 : tie.Need-returns-4
+returns-4 c = simp (c .before .before .answer3 .given .1, c .refusal-number .ensures)
+
 pub refusal-in-spec : {M : Type 1} → statement M
 refusal-in-spec =
     tie.close
@@ -17,4 +20,4 @@ refusal-in-spec =
     (λ c. search needs)
     (λ c. search needs)
     returns-3
-    (λ c. search needs))
+    returns-4)

@@ -1,21 +1,22 @@
 use mathlib.Core.Path.{refl}
-use borrow.Author.Tests.{le-leb, lt-leb, not-false, not-true}
+use borrow.Author.Tests.{le-leb, le-ltb, lt-leb, lt-ltb}
+use Rattle.chain.specs.{isMember}
 use Rattle.protocol.specs.Steps.{removing}
 use borrow.Author.Needs.{needs}
 use Rattle.steps.proofs.remove.Statement.{statement}
 use Rattle.steps.proofs.remove.Tie as tie
 
 returns : tie.Need-returns
-unfolding removing
-returns c = simp (← c .before .before .is-live .ensures, not-true (c .before .before .is-live .result) (c .before .if1 .taken), c .refuse .ensures) (refl, refl)
+unfolding removing isMember
+returns c = simp (← c .before .before .before .before .count .ensures .0, ← c .before .before .place .ensures, le-ltb _ _ (c .before .if1 .taken), c .refuse .ensures) (refl, refl)
 
 returns-2 : tie.Need-returns-2
-unfolding removing
-returns-2 c = simp (← c .before .before .before .before .before .is-live .ensures, not-false (c .before .before .before .before .before .is-live .result) (c .before .before .before .before .if1 .left), ← c .before .before .count .ensures .0, le-leb _ _ (c .before .if2 .taken), c .refuse2 .ensures) (refl, refl)
+unfolding removing isMember
+returns-2 c = simp (← c .before .before .before .before .before .count .ensures .0, ← c .before .before .before .place .ensures, lt-ltb _ _ (c .before .before .if1 .left), le-leb _ _ (c .before .if2 .taken), c .refuse2 .ensures) (refl, refl)
 
 returns-3 : tie.Need-returns-3
-unfolding removing
-returns-3 c = simp (← c .before .before .before .before .before .before .before .before .is-live .ensures, not-false (c .before .before .before .before .before .before .before .before .is-live .result) (c .before .before .before .before .before .before .before .if1 .left), ← c .before .before .before .before .before .count .ensures .0, lt-leb _ _ (c .before .before .before .before .if2 .left), c .before .before .remove .ensures, ← c .before .no-edit .ensures, c .done .ensures) (refl, refl)
+unfolding removing isMember
+returns-3 c = simp (← c .before .before .before .before .before .before .before .before .count .ensures .0, ← c .before .before .before .before .before .before .place .ensures, lt-ltb _ _ (c .before .before .before .before .before .if1 .left), lt-leb _ _ (c .before .before .before .before .if2 .left), ← c .before .before .remove .ensures, c .before .no-edit .ensures, c .done .ensures) (refl, refl)
 
 pub remove-spec : {M : Type 1} → statement M
 remove-spec =
@@ -23,8 +24,8 @@ remove-spec =
     (tie.spec
     (λ c κs. search needs)
     (λ c κs. search needs)
-    returns
     (λ c κs. search needs)
+    returns
     (λ c κs. search needs)
     returns-2
     (λ c κs. search needs)

@@ -10,7 +10,7 @@ returns c = simp (eq-eqb _ _ (c .before .if1 .taken), c .drop-packet .ensures)
 
 returns-2 : tie.Need-returns-2
 unfolding stamping
-returns-2 c = simp (ne-eqb _ _ (c .before .before .if1 .left), ← c .before .head .ensures, c .pass-on .ensures)
+returns-2 c = simp (ne-eqb _ _ (c .before .before .if1 .left), ← c .before .head-number .ensures, c .pass-on .ensures)
 
 pub stamp-on-spec : {M : Type 1} → statement M
 stamp-on-spec =

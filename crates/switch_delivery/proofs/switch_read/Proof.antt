@@ -6,7 +6,7 @@ use Rattle.switch_delivery.proofs.switch_read.Tie as tie
 
 returns : tie.Need-returns
 unfolding switchRead
-returns c = simp (← c .before .before .before .is-direct .ensures, not-true (c .before .before .before .is-direct .result) (c .before .before .if1 .taken), ← c .before .before .before .before .lookup .ensures, ← c .before .tail .ensures, c .pass-on .ensures)
+returns c = simp (← c .before .before .before .is-direct .ensures, not-true (c .before .before .before .is-direct .result) (c .before .before .if1 .taken), ← c .before .before .before .before .lookup .ensures, ← c .before .tail-number .ensures, c .pass-on .ensures)
 
 returns-2 : tie.Need-returns-2
 unfolding switchRead
@@ -14,7 +14,7 @@ returns-2 c = simp (← c .before .before .before .before .before .before .is-di
 
 returns-3 : tie.Need-returns-3
 unfolding switchRead
-returns-3 c = simp (← c .before .before .before .before .is-direct .ensures, not-false (c .before .before .before .before .is-direct .result) (c .before .before .before .if1 .left), ← c .before .before .before .before .before .lookup .ensures, ne-eqb _ _ (c .before .before .if2 .left), ← c .before .tail2 .ensures, c .pass-on3 .ensures)
+returns-3 c = simp (← c .before .before .before .before .is-direct .ensures, not-false (c .before .before .before .before .is-direct .result) (c .before .before .before .if1 .left), ← c .before .before .before .before .before .lookup .ensures, ne-eqb _ _ (c .before .before .if2 .left), ← c .before .tail-number2 .ensures, c .pass-on3 .ensures)
 
 pub switch-read-spec : {M : Type 1} → statement M
 switch-read-spec =

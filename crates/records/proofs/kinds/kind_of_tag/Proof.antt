@@ -15,7 +15,7 @@ returns-2 c =
     let t : ℕ = c .before .before .before .args .tag in simp (
       ne-eqb t 32 (c .before .before .match .rest .1),
       le-leb 1 t (omega arith),
-      le-leb t 11 (omega arith),
+      le-leb t 13 (omega arith),
     )
 
 returns-3 : tie.Need-returns-3
@@ -28,7 +28,7 @@ returns-4 c =
     let t : ℕ = c .before .before .before .args .tag in simp (
       ne-eqb t 32 (c .before .before .match .rest .1),
       le-leb 1 t (omega arith),
-      lt-leb t 11 (omega arith),
+      lt-leb t 13 (omega arith),
     )
 
 pub kind-of-tag-spec : {M : Type 1} → statement M

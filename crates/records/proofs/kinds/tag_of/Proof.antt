@@ -8,7 +8,7 @@ use Rattle.records.proofs.kinds.tag_of.Tie as tie
 
 returns : tie.Need-returns
 unfolding tagOf
-returns c = let k : ℕ = c .before .before .args .kind in simp (le-leb 1 k (omega arith), le-leb k 11 (omega arith))
+returns c = let k : ℕ = c .before .before .args .kind in simp (le-leb 1 k (omega arith), le-leb k 13 (omega arith))
 
 returns-2 : tie.Need-returns-2
 unfolding tagOf
@@ -16,7 +16,7 @@ returns-2 c = simp (lt-leb 1 (c .before .args .kind) (omega arith))
 
 returns-3 : tie.Need-returns-3
 unfolding tagOf
-returns-3 c = let k : ℕ = c .before .before .args .kind in simp (le-leb 1 k (omega arith), lt-leb k 11 (omega arith))
+returns-3 c = let k : ℕ = c .before .before .args .kind in simp (le-leb 1 k (omega arith), lt-leb k 13 (omega arith))
 
 pub tag-of-spec : {M : Type 1} → statement M
 tag-of-spec = tie.close (tie.spec (λ c. search needs) returns returns-2 returns-3)

@@ -37,6 +37,10 @@ record-of-spec =
     (λ c κs. search needs)
     (λ c. search needs)
     (λ c κs. search needs)
+    (λ c. search needs)
+    (λ c κs. search needs)
+    (λ c. search needs)
+    (λ c κs. search needs)
     (λ c. simp (c .before .before .step .given .1, c .one-byte .ensures, c .before .before .before .before .kind-of .ensures))
     (λ c. simp (c .before .before .step2 .given .1, c .two-bytes .ensures, c .before .before .before .before .kind-of .ensures))
     (λ c. simp (c .before .before .step3 .given .1, c .two-and-four .ensures, c .before .before .before .before .kind-of .ensures))
@@ -48,4 +52,6 @@ record-of-spec =
     (λ c. simp (c .before .before .step9 .given .1, c .one-byte3 .ensures, c .before .before .before .before .kind-of .ensures))
     (λ c. simp (c .before .before .step10 .given .1, c .one-byte4 .ensures, c .before .before .before .before .kind-of .ensures))
     (λ c. simp (c .before .before .step11 .given .1, c .two-bytes5 .ensures, c .before .before .before .before .kind-of .ensures))
-    begin-context)
+    begin-context
+    (λ c. simp (c .before .enum-told .given .1, c .header .ensures, c .before .before .before .kind-of .ensures))
+    (λ c. simp (c .before .enum-told2 .given .1, c .header2 .ensures, c .before .before .before .kind-of .ensures)))

@@ -1,0 +1,70 @@
+-- Req 04: 'when the newcomer becomes the tail its tables are the old tail's, object by object', with the old tail's highest stamp and permitted switch.
+use mathlib.Core.Path.{_≡_, refl, sym, ap, _∙_}
+use mathlib.Core.Bool.{true}
+use mathlib.Core.List.{List}
+use Prim.Native.Nat.{ℕ, _+_, _-_, _*_, _≤_, _<_}
+use native.Mathlib.Omega.{arith}
+use Rattle.store.specs.declared.Write.{Write}
+use Rattle.store.specs.{liveCount, highestOf, permittedBy, valueAt, stampAt}
+use Rattle.chain.specs.{memberAt, tailOf}
+use Rattle.joins.specs.{isJoining, copiesMade, newcomer, promoted, oneCopy, copying}
+use Rattle.chain.proofs.Members.{tail-is}
+use Rattle.log.proofs.Shows.{Shows, tail-live}
+use Rattle.log.proofs.Places.{live-count-same}
+use Rattle.log.proofs.Copies.{SameAt, copied-other, highest-copied, permitted-copied, copies-few}
+use Rattle.log.proofs.Beside.{live-named-in, newcomer-named, newcomer-apart}
+use Rattle.log.proofs.Promotion.{count-promoted, member-promoted-last, value-promoted, stamp-promoted, highest-promoted-own, permitted-promoted-own}
+use Rattle.log.proofs.Joined.{JoinInvariant, free, copy-places, copy-shows, copy-free, copy-tail, all-alike}
+
+module _ {s : List ℕ} {log : List Write} {n : ℕ} (k : Shows s log n) (g : JoinInvariant s) (joins : isJoining s ≡ true) (all : copiesMade s + 1 ≡ 16) where
+  abbrev one : List ℕ
+  one = oneCopy s
+
+  copying-is : copying s ≡ promoted one
+  unfolding copying
+  copying-is = rw all refl
+
+  -- it is the newcomer
+  new-tail : tailOf (promoted one) ≡ newcomer one
+  new-tail =
+      let more = count-promoted one (copy-shows k g joins .sized) (copy-free k g joins) in
+      tail-is (promoted one) ∙ ap (λ (i : ℕ). memberAt (promoted one) (i - 1)) more ∙ ap (memberAt (promoted one)) (omega arith) ∙
+      member-promoted-last one (copy-shows k g joins .sized) (copy-free k g joins)
+
+  pub live-more : liveCount (copying s) ≡ liveCount s + 1
+  live-more =
+      ap liveCount copying-is ∙ count-promoted one (copy-shows k g joins .sized) (copy-free k g joins) ∙ ap (λ (i : ℕ). i + 1) (live-count-same (copy-places k g joins .same))
+
+  -- a copy leaves the old tail's tables
+  old-tail : (o : ℕ) → o < 1024 → SameAt s one (tailOf s) o
+  unfolding oneCopy
+  old-tail o h =
+      copied-other s (newcomer s) (tailOf s) (64 * copiesMade s) (k .sized) (newcomer-named (g .places) (free k g joins))
+      (live-named-in (g .places) (tailOf s) (tail-live k)) (newcomer-apart (g .places) (free k g joins) (tailOf s) (tail-live k)) 64 (omega (arith, copies-few s))
+      (tailOf s) o (live-named-in (g .places) (tailOf s) (tail-live k)) h (λ e a b. newcomer-apart (g .places) (free k g joins) (tailOf s) (tail-live k) e)
+
+  pub tail-value : (o : ℕ) → o < 1024 → valueAt (copying s) (tailOf (copying s)) o ≡ valueAt s (tailOf s) o
+  tail-value o h =
+      rw (copying-is, new-tail)
+      (value-promoted one (copy-shows k g joins .sized) (copy-free k g joins) (newcomer one) o ∙ all-alike k g joins all o h .0 ∙
+      ap (λ (t : ℕ). valueAt one t o) (copy-tail k g joins) ∙ old-tail o h .0)
+
+  pub tail-stamp : (o : ℕ) → o < 1024 → stampAt (copying s) (tailOf (copying s)) o ≡ stampAt s (tailOf s) o
+  tail-stamp o h =
+      rw (copying-is, new-tail)
+      (stamp-promoted one (copy-shows k g joins .sized) (copy-free k g joins) (newcomer one) o ∙ all-alike k g joins all o h .1 ∙
+      ap (λ (t : ℕ). stampAt one t o) (copy-tail k g joins) ∙ old-tail o h .1)
+
+  pub tail-highest : highestOf (copying s) (tailOf (copying s)) ≡ highestOf s (tailOf s)
+  unfolding oneCopy
+  tail-highest =
+      rw (copying-is, new-tail)
+      (highest-promoted-own one (copy-shows k g joins .sized) (copy-free k g joins) ∙ ap (highestOf one) (copy-tail k g joins) ∙
+      highest-copied s (newcomer s) (tailOf s) (64 * copiesMade s) 64 (tailOf s))
+
+  pub tail-permitted : permittedBy (copying s) (tailOf (copying s)) ≡ permittedBy s (tailOf s)
+  unfolding oneCopy
+  tail-permitted =
+      rw (copying-is, new-tail)
+      (permitted-promoted-own one (copy-shows k g joins .sized) (copy-free k g joins) ∙ ap (permittedBy one) (copy-tail k g joins) ∙
+      permitted-copied s (newcomer s) (tailOf s) (64 * copiesMade s) 64 (tailOf s))
