@@ -111,7 +111,8 @@ pub fn choose(cells: &[u32; CELLS], choice: u8) -> Replica
     if n == 0 {
         return 0;
     }
-    number_at(cells, (choice as usize) % n)
+    let place = remainders::remainder(choice, n);
+    number_at(cells, place as usize)
 }
 
 // The place in the chain of the replica with this number, or the number of live replicas where it is gone.

@@ -1,0 +1,3 @@
+-- The rule of the table of remainders.
+pub mod Entries
+pub mod Table
