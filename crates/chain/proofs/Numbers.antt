@@ -1,17 +1,15 @@
 -- The laws of the replicas' numbers, which packets and steps name: at which place the replica with a number stands, and which table it has.
 use mathlib.Core.Path.{_≡_, refl, sym, ap, _∙_}
-use mathlib.Core.Bool.{Bool, true, false}
+use mathlib.Core.Bool.{true}
 use mathlib.Core.List.{List}
 use Prim.Native.Nat.{ℕ, _+_, _-_, _%_, _≤_, _<_}
 use native.Mathlib.Nat.{mod-lt}
 use native.Mathlib.Omega.{arith}
-use lib.Dec.{eqb, ltb}
 use lib.ListN.{length, getD, List·getD-eq-default}
 use borrow.Author.Tests.{ltb-true, lt-ltb, eqb-true}
-use Rattle.lists.specs.{indexOf}
 use Rattle.lists.proofs.Index.{index-first, index-none, index-at}
 use Rattle.lists.proofs.Places.{length-listOf, getD-listOf}
-use Rattle.store.specs.{liveCount, orderAt, numberAt}
+use Rattle.store.specs.{liveCount, numberAt}
 use Rattle.chain.specs.{isLive, memberAt, tailOf, numbers, placeOf, isMember, isTail, tableOf, numberIn, headNumber, tailNumber, chosenBy}
 use Rattle.chain.proofs.Members.{member-in, in-live, tail-is}
 

@@ -9,11 +9,11 @@ use lib.ListN.{length, getD}
 use borrow.Author.Tests.{eq-eqb, ne-eqb, lt-ltb, ltb-true, leb-true}
 use Rattle.lists.specs.{indexOf, listOf, allOf}
 use Rattle.lists.proofs.AllOf.{all-pass, all-fail, all-member}
-use Rattle.lists.proofs.Index.{index-first, index-none}
+use Rattle.lists.proofs.Index.{index-first, index-none, at-in}
 use Rattle.lists.proofs.Places.{length-listOf, getD-listOf, listOf-same}
 use Rattle.contexts.specs.declared.Context.{Context}
 use Rattle.contexts.specs.declared.Objects.{Objects}
-use Rattle.contexts.specs.{placeOf, sizeOf, numbersOf, keptAt, mapped, isObject, areObjects, standsFirst, areDifferent, isCount, emptyAt, isNaming}
+use Rattle.contexts.specs.{placeOf, sizeOf, numbersOf, keptAt, mapped, isObject, areObjects, standsFirst, areDifferent, isCount, isContext, emptyAt, isNaming}
 
 pub size-most : (v : Context) → sizeOf v ≤ 8
 unfolding sizeOf
@@ -133,12 +133,17 @@ first-holds : (b rest : Bool) → cond b rest false ≡ true → b ≡ true
 first-holds true rest e = refl
 first-holds false rest e = absurd (let z : _≡_ {A = ℕ} 0 1 = cc in omega arith)
 
--- there are objects
-pub naming-some : (x : Objects) → isNaming x ≡ true → 2 ≤ x .count
+-- there are 2 to 8 objects
+pub naming-count : (x : Objects) → isNaming x ≡ true → isCount (x .count) ≡ true
 unfolding isNaming
-naming-some x e = count-some (x .count) (first-holds (isCount (x .count)) _ e)
+naming-count x e = first-holds (isCount (x .count)) _ e
 
 -- each object is one that there is
 pub objects-small : (v : Context) → areObjects v ≡ true → (x : ℕ) → List·Memᴰ x (numbersOf v) → x < 1024
 unfolding areObjects isObject
 objects-small v e x i = ltb-true x 1024 (all-member isObject (numbersOf v) x e i)
+
+-- so 2 to 8 objects that there are make a context
+pub context-known : (v : Context) → isCount (v .count) ≡ true → ((x : ℕ) → List·Memᴰ x (numbersOf v) → x < 1024) → isContext v ≡ true
+unfolding isContext areObjects isObject
+context-known v c f = rw c (all-pass isObject (numbersOf v) (λ k h. lt-ltb (getD (numbersOf v) k 0) 1024 (f (getD (numbersOf v) k 0) (at-in (numbersOf v) k 0 h))))

@@ -2,6 +2,7 @@
 -- Of the chain there is only how many writes of the log its tail has applied.
 use mathlib.Core.Path.{_≡_, refl, sym, ap, _∙_, subst}
 use mathlib.Core.Logic.{inl, inr, _≢_}
+use mathlib.Core.Bool.{true}
 use mathlib.Core.List.{List, [], _∷_, _++_, map, append-assoc}
 use Prim.Native.Nat.{ℕ, zero, suc, _+_, _-_, _%_, _≤_, _<_, max}
 use native.Mathlib.Omega.{arith}
@@ -14,7 +15,7 @@ use Rattle.history.proofs.Growth.{begun-at}
 use Rattle.history.proofs.Readable.{Readable, placed, readable-now, readable-begin, readable-visible, readable-finish, readable-placed}
 use Rattle.log.proofs.Log.{values, stamps, top, top-take, same-value, below-top, rising-take}
 use Rattle.limits.specs as limits
-use Rattle.contexts.specs.{sizeAt, contextAt}
+use Rattle.contexts.specs.{isCount, sizeAt, contextAt}
 use Rattle.contexts.proofs.Rows.{Apart}
 use Rattle.store.specs.declared.Write.{Write}
 use Rattle.protocol.specs.Answers.{noFreshness, newRead}
@@ -74,9 +75,9 @@ module _ {h : History} {es : List Entry} {issued log : List Write} {n : ℕ} {me
       → Core h es issued log n (messages ++ m ∷ []) c opens
   core-add m f a b = record { visible = k .visible; packets = packets-add messages m f a b (k .packets); low = k .low }
 
-  -- one that names a row, which is not free, and which no other names
+  -- one that names a row, which holds 2 to 8 numbers, and which no other names
   pub core-join : (m : Message) → Fine h es issued (top 0 (take n log)) opens m → ((o : ℕ) → Asks m o → ⊥) → ((q : Message) → q ∈ messages → Others q m)
-      → ((r : ℕ) → Names m r → sizeAt opens r ≢ 0) → Core h es issued log n (messages ++ m ∷ []) c opens
+      → ((r : ℕ) → Names m r → isCount (sizeAt opens r) ≡ true) → Core h es issued log n (messages ++ m ∷ []) c opens
   core-join m f a rows held = record { visible = k .visible; packets = packets-join messages m f (λ o b. absurd (a o b)) rows held (k .packets); low = k .low }
 
   -- the rows that are named hold what they held
@@ -182,12 +183,12 @@ module _ {h : History} {es : List Entry} {issued log : List Write} {n c : ℕ} {
   core-leave = core-rows (core-lose a m b k) (λ q i s j. same s (rows-apart a m b (k .packets) r names q i s j))
 
   -- another message that names that row comes of it
-  pub core-turn : (q : Message) → Fine h es issued (top 0 (take n log)) opens' q → ((o : ℕ) → Asks q o → ⊥) → ((s : ℕ) → Names q s → s ≡ r) → sizeAt opens' r ≢ 0
+  pub core-turn : (q : Message) → Fine h es issued (top 0 (take n log)) opens' q → ((o : ℕ) → Asks q o → ⊥) → ((s : ℕ) → Names q s → s ≡ r) → isCount (sizeAt opens' r) ≡ true
       → Core h es issued log n ((a ++ b) ++ q ∷ []) c opens'
   core-turn q f no-ask only held =
       core-join core-leave q f no-ask
       (λ p i s t j l. let e = only t l in λ d. rows-apart a m b (k .packets) r names p i s j (ap (λ (z : ℕ). z % limits.contexts) (sym e) ∙ sym d))
-      (λ s l. subst (λ (z : ℕ). sizeAt opens' z ≢ 0) (sym (only s l)) held)
+      (λ s l. subst (λ (z : ℕ). isCount (sizeAt opens' z) ≡ true) (sym (only s l)) held)
 
 -- ---- changes made of several
 

@@ -8,7 +8,6 @@ use native.Mathlib.Omega.{arith}
 use lib.Dec.{eqb}
 use lib.ListN.{length, take, length-append}
 use lib.Seq.{slice}
-use borrow.Author.Tests.{eqb-true, eqb-false}
 use Rattle.history.specs.History.{_∈_, reads, writes, History, begun, finished}
 use Rattle.history.proofs.Lists.{here, there, cases-cons, cases-append, only-member}
 use Rattle.history.proofs.Tests.{by-test}
@@ -206,7 +205,7 @@ module _ {m : Machine} {h : History} {es : List Entry} (g : Good m h es) {at : �
 
     -- another message that names the row comes of it
     good-turned : (q : Message) → Fine h es (g .issued) (top 0 (take (g .n) (g .log))) opens' q → ((o : ℕ) → Asks q o → ⊥) → ((s : ℕ) → Names q s → s ≡ r)
-        → (sizeAt opens' r ≡ 0 → ⊥) → Placed (m .store) q → After (changingOpens (givenBy m) (opened (passing at q) opens'))
+        → isCount (sizeAt opens' r) ≡ true → Placed (m .store) q → After (changingOpens (givenBy m) (opened (passing at q) opens'))
     unfolding passing rest
     good-turned q f a only held p =
         rw (order-stays m (done m (changingOpens (givenBy m) (opened (passing at q) opens'))) es refl)
@@ -238,7 +237,7 @@ module _ {m : Machine} {h : History} {es : List Entry} (g : Good m h es) {at : �
       let z = g .books .cells in
       good-turned r names (holding l r v) (context-apart l r v) (opens-holding l r v) (sized-holding l r v z) (ContextReply o r)
       (subst (AnsweredContext h es o) (sym (numbers-held l r v z ∙ numbers-mapped (valueAt (m .store) q) (contextAt l r))) f) (λ p a. a) (λ s e. sym e)
-      (λ e. g .core .packets .used msg r (stands-in i) names (sym (size-is l r) ∙ sym (size-held l r v z) ∙ e)) tt
+      (ap isCount (size-held l r v z ∙ size-is l r) ∙ g .core .packets .used msg r (stands-in i) names) tt
 
   -- ---- the chain takes a write; r is the table of the replica
 

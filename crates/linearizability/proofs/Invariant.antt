@@ -132,7 +132,7 @@ pub order-stays : (m k : Machine) (es : List Entry) → tailApplied k ≡ tailAp
 order-stays m k es e = rw (nothing-visible m k e)
 
 -- a refusal is no event
-noted-refused : (x : Step) (r : Refusal) (h : History) → noted x (Refused r) h ≡ h
+pub noted-refused : (x : Step) (r : Refusal) (h : History) → noted x (Refused r) h ≡ h
 noted-refused (Start n) r h = refl
 noted-refused (BeginRead x) r h = refl
 noted-refused (BeginWrite x v) r h = refl

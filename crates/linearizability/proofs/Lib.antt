@@ -15,6 +15,7 @@ pub mod Listing
 pub mod Limits
 pub mod Opens
 pub mod Runs
+pub mod Edits
 pub mod Rows
 pub mod Freshness
 pub mod NewTail

@@ -3,7 +3,7 @@
 use mathlib.Core.Path.{_≡_, refl, sym, ap, _∙_, subst}
 use mathlib.Core.Bool.{Bool, true, false}
 use mathlib.Core.List.{List, [], _∷_, _++_}
-use mathlib.Core.Logic.{_⊎_, inl, inr, _≢_, _↔_}
+use mathlib.Core.Logic.{inl, inr, _≢_, _↔_}
 use Prim.Native.Nat.{ℕ, suc, _+_, _≤_, _<_}
 use native.Mathlib.Omega.{arith}
 use lib.Dec.{eqb, leb, ltb}
@@ -251,7 +251,7 @@ module _ (o : ℕ) (l : List ℕ) (i : o ∈ l) where
 -- ---- the operations that the machine has open
 
 -- they are those of the list, and none stands there twice
-record Same (cells l : List ℕ) : Type 0 where
+pub record Same (cells l : List ℕ) : Type 0 where
   pub counted : openCount cells ≡ length l
   pub listed : (o : ℕ) → isOpen cells o ≡ true → o ∈ l
   pub kept : (o : ℕ) → o ∈ l → isOpen cells o ≡ true
@@ -266,7 +266,7 @@ same-kept c s = record {
   distinct = s .distinct;
 }
 
-same-none : Same noneOpen []
+pub same-none : Same noneOpen []
 same-none = record { counted = count-none; listed = λ o e. absurd (none-open o e); kept = λ o i. absurd (no-member i); distinct = tt }
 
 module _ {m : Machine} {h : History} {es : List Entry} (g : Good m h es) {l : List ℕ} (s : Same (m .opens) l) where
@@ -297,13 +297,13 @@ module _ {m : Machine} {h : History} {es : List Entry} (g : Good m h es) {l : Li
         distinct = distinct-out o l i (s .distinct);
       }
 
-  same-changed : {cells' : List ℕ} {h' : History} {l' : List ℕ} → Change (m .opens) h l cells' h' l' → Same cells' l'
+  pub same-changed : {cells' : List ℕ} {h' : History} {l' : List ℕ} → Change (m .opens) h l cells' h' l' → Same cells' l'
   same-changed (stays c e q) = rw q (same-kept c s)
   same-changed (begins k room c e q) = rw q (same-kept c (same-opening room))
   same-changed (finishes o vs was c e q) = rw q (same-kept c (same-closing o was))
   same-changed (gives-up o was c e q) = rw q (same-kept c (same-closing o was))
 
-same-reached : {m : Machine} {h : History} {es : List Entry} → Good m h es → {l : List ℕ} → Same (m .opens) l → (xs : List Step)
+pub same-reached : {m : Machine} {h : History} {es : List Entry} → Good m h es → {l : List ℕ} → Same (m .opens) l → (xs : List Step)
     → Same (reached m xs .opens) (openFrom m h l xs)
 same-reached g s [] = s
 same-reached {m} {h} g {l} s (x ∷ xs) = same-reached (good-after g x) (same-changed g s (change m h l x)) xs
@@ -370,7 +370,7 @@ length-reached m (x ∷ xs) = length-reached (after m x) xs ∙ length-edited (m
 
 -- FOR EVERY NUMBER OF REPLICAS FROM 1 TO 8, EVERY LENT ROW OF PLACES AND EVERY LIST OF STEPS, refused ones included
 module _ (n : ℕ) (low : 1 ≤ n) (high : n ≤ 8) (row : List Packet) (xs : List Step) where
-  same-run : Same (machineOf n row xs .opens) (openOf n row xs)
+  pub same-run : Same (machineOf n row xs .opens) (openOf n row xs)
   unfolding started
   same-run = same-reached (good-start n low high row) same-none xs
 

@@ -51,7 +51,7 @@ objects-of (begun p j ∷ h) {o} {k} u m =
 objects-of (finished p vs ∷ h) u m = objects-of h (λ q i l a b. u q i l (there a) (there b)) (older m begun-not-finished)
 
 -- an element of a back part
-in-drop : {A : Type 0} {x : A} (n : ℕ) (l : List A) → x ∈ drop n l → x ∈ l
+pub in-drop : {A : Type 0} {x : A} (n : ℕ) (l : List A) → x ∈ drop n l → x ∈ l
 in-drop {A} {x} n l m = subst (λ (k : List A). x ∈ k) (take-append-drop n l) (in-right (take n l) m)
 
 -- what is sent when these writes become visible: nothing, or for one write a reply and a completion

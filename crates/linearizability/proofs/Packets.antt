@@ -1,6 +1,7 @@
 -- The waiting packets, as messages, and what holds of each: facts that stay true while the history grows.
 use mathlib.Core.Path.{_≡_, refl, sym, ap, _∙_, subst}
 use mathlib.Core.Logic.{_⊎_, inl, inr, _≢_}
+use mathlib.Core.Bool.{true}
 use mathlib.Core.List.{List, [], _∷_, _++_}
 use Prim.Native.Nat.{ℕ, _+_, _≤_}
 use native.Mathlib.Omega.{arith}
@@ -10,7 +11,8 @@ use Rattle.history.proofs.Entries.{Entry, InOrder}
 use Rattle.history.proofs.Growth.{begun-at}
 use Rattle.history.proofs.Readable.{Readable}
 use Rattle.contexts.specs.declared.Context.{Context}
-use Rattle.contexts.specs.{numbersOf, sizeAt, contextAt}
+use Rattle.contexts.specs.{numbersOf, isCount, sizeAt, contextAt}
+use Rattle.contexts.proofs.Places.{count-some}
 use Rattle.contexts.proofs.Rows.{Apart, size-is}
 use Rattle.store.specs.declared.Write.{Write}
 use Rattle.protocol.specs.Answers.{newRead}
@@ -92,9 +94,13 @@ pub record Packets (h : History) (es : List Entry) (issued : List Write) (t : �
   -- an operation's unstamped write waits once at the most, and then has no stamp yet
   pub once : Pairwise Differ messages
   pub unstamped : (m : Message) (o : ℕ) → m ∈ messages → Asks m o → (w : Write) → w ∈ issued → w .operation ≢ o
-  -- waiting messages name different rows, none of which is free
+  -- waiting messages name different rows, each of which holds 2 to 8 numbers
   pub apart : Pairwise Others messages
-  pub used : (m : Message) (r : ℕ) → m ∈ messages → Names m r → sizeAt opens r ≢ 0
+  pub used : (m : Message) (r : ℕ) → m ∈ messages → Names m r → isCount (sizeAt opens r) ≡ true
+
+-- such a row is not free
+pub not-free : (k : ℕ) → isCount k ≡ true → k ≢ 0
+not-free k c e = omega (arith, e, count-some k c)
 
 -- no packet waits
 pub packets-start : {h : History} {es : List Entry} {issued : List Write} {t : ℕ} {opens : List ℕ} → Packets h es issued t opens []
@@ -178,7 +184,7 @@ module _ {h : History} {es : List Entry} {issued : List Write} {t : ℕ} {opens 
   -- one joins the list; if it is an unstamped write, none of its operation waits and none is stamped; if it names a row, that is not free, and no other that waits names it
   pub packets-join : (messages : List Message) (m : Message) → Fine h es issued t opens m
       → ((o : ℕ) → Asks m o → ((q : Message) → q ∈ messages → Asks q o → ⊥) × ((w : Write) → w ∈ issued → w .operation ≢ o))
-      → ((q : Message) → q ∈ messages → Others q m) → ((r : ℕ) → Names m r → sizeAt opens r ≢ 0)
+      → ((q : Message) → q ∈ messages → Others q m) → ((r : ℕ) → Names m r → isCount (sizeAt opens r) ≡ true)
       → Packets h es issued t opens messages → Packets h es issued t opens (messages ++ m ∷ [])
   packets-join messages m f new rows held p = record {
     fine = λ q i. elim (cases-append messages i) [ inl j ↦ p .fine q j | inr j ↦ subst (Fine h es issued t opens) (sym (only-member j)) f ];
@@ -263,7 +269,7 @@ packets-rows {h} {es} {issued} {t} {opens} {opens'} same p = record {
   once = p .once;
   unstamped = p .unstamped;
   apart = p .apart;
-  used = λ m r i n e. p .used m r i n (sym (size-is opens r) ∙ ap (λ (v : Context). v .count) (sym (same m i r n)) ∙ size-is opens' r ∙ e);
+  used = λ m r i n. ap isCount (sym (size-is opens' r) ∙ ap (λ (v : Context). v .count) (same m i r n) ∙ size-is opens r) ∙ p .used m r i n;
 }
 
 -- the rows of the others are not that of a message

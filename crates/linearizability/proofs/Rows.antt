@@ -1,7 +1,7 @@
 -- In every run each row in use is named by a waiting packet: so while fewer than 64 packets wait there is a free row, and no read of a whole context is turned down for want of
 -- one.
 use mathlib.Core.Path.{_≡_, refl, sym, ap, _∙_, subst}
-use mathlib.Core.Bool.{Bool, true, false, not}
+use mathlib.Core.Bool.{Bool, true, false}
 use mathlib.Core.List.{List, [], _∷_, _++_, map}
 use mathlib.Core.Logic.{_⊎_, inl, inr, _≢_}
 use Prim.Native.Nat.{ℕ, zero, suc, _+_, _-_, _%_, _≤_, _<_}
@@ -22,11 +22,10 @@ use Rattle.contexts.specs.declared.Objects.{Objects}
 use Rattle.contexts.specs.{contextOf, mapped, areObjects, areDifferent, isCount, isContext, sizeAt, contextAt, freeRow, holding, freeing}
 use Rattle.contexts.proofs.Rows.{Apart, size-is, context-opening, context-closing, context-apart, freed-apart, freed-size, size-none, free-none-left}
 use Rattle.store.specs.{liveCount, valueAt}
-use Rattle.chain.specs.{placeOf, isMember, isTail, tableOf, tailNumber, chosenBy, allPermit}
+use Rattle.chain.specs.{placeOf, isMember, isTail, tableOf, tailNumber, chosenBy}
 use Rattle.joins.specs.{isJoining, isFull}
-use Rattle.replicas.specs.Replicas.{accepts, pendingAt, answersDirect}
-use Rattle.switch.specs.Numbers.{numberIn, committedIn, directIn}
-use Rattle.switch.specs.DirtySet.{lookedUp, marked, stampFor}
+use Rattle.replicas.specs.Replicas.{pendingAt}
+use Rattle.switch.specs.Numbers.{numberIn, committedIn}
 use Rattle.waiting.specs.declared.Packet.{Packet}
 use Rattle.waiting.specs.declared.Edit.{Edit}
 use Rattle.waiting.specs.Waiting.{WaitingList, held, noneWait, lookAt, edited, added}
@@ -40,9 +39,9 @@ use Rattle.protocol.specs.declared.Message.the-variants.{UnstampedWrite, Switch
 use Rattle.protocol.specs.declared.Step.{Step}
 use Rattle.protocol.specs.declared.Step.the-variants.{Start, BeginRead, BeginWrite, Deliver, Lose, Repeat, Advance, Replace, Tell, Remove, GiveUp, BeginContext, Join, Copy}
 use Rattle.protocol.specs.Messages.{packetOf, messageOf, isUnstamped, isOfContext, inRow}
-use Rattle.protocol.specs.Decisions.{Given, Outcome, Switched, Stored, Opened, switched, opened, keeping, changingSwitch, changingStore, changingOpens, noEdit, takeOut, takeOutAdd, addOne, deciding, refusing, dropping, passing, overfull}
+use Rattle.protocol.specs.Decisions.{Given, Outcome, Switched, Stored, Opened, opened, keeping, changingSwitch, changingStore, changingOpens, takeOut, takeOutAdd, addOne, deciding, refusing, dropping, passing, overfull}
 use Rattle.protocol.specs.Contexts.{released, leaving, droppingRow, goesDirectly, contextRead, answersContext, answeringContext, directContext, normalContext, contextReply}
-use Rattle.protocol.specs.Delivery.{stamping, unstampedWrite, switchRead, stampedWrite, directRead, normalRead, completion, reply, deliveredMessage}
+use Rattle.protocol.specs.Delivery.{reply, deliveredMessage}
 use Rattle.protocol.specs.Steps.{Machine, givenBy, positionOf, isMalformed, asking, beginOperation, beginContext, delivered, lost, copied, repeated, advancing, replacing, telling, removing, joining, copyingOn, givingUp, decided, decidedIn, after, started}
 use Rattle.linearizability.proofs.Packets.{Names}
 use Rattle.linearizability.proofs.Waits.{messages, message-packet, front, back, at-position, length-messages, room, taking, keeping as staying}
@@ -53,6 +52,7 @@ use Rattle.linearizability.proofs.Steps.{names-not}
 use Rattle.linearizability.proofs.OneOrder.{good-start, good-after}
 use Rattle.linearizability.proofs.Limits.{reached, machineOf}
 use Rattle.linearizability.proofs.Opens.{length-reached}
+use Rattle.linearizability.proofs.Edits.{Edits, Known, edits-decided, known-after, known-start}
 
 -- row r is in use
 abbrev Used : List ℕ → ℕ → Type 0
@@ -321,117 +321,17 @@ module _ (g : Given) (z : SizedOpens (g .opens)) (p : Packet) where
 
 -- ---- what an edit leaves in the list
 
--- an edit takes out what stands at the position, where a packet waits, and adds at most two
-abbrev Edits : ℕ → ℕ → Edit → Type 0
-Edits held at e = (e .take ≡ true → e .at ≡ at) × (e .add ≤ 2) × (e .take ≡ true → at < held)
-
-module _ (g : Given) (at : ℕ) where
-  abbrev Fine : Outcome → Type 0
-  Fine u = Edits (g .held) at (u .decision .edit)
-
-  none : Edits (g .held) at noEdit
-  none = (λ t. not-taken t, omega arith, λ t. not-taken t)
-
-module _ (g : Given) (at : ℕ) (inside : at < g .held) where
-  out : Edits (g .held) at (takeOut at)
-  out = (λ t. refl, omega arith, λ t. inside)
-
-  edits-message : (choice : ℕ) (q : Message) → Fine g at (deliveredMessage g at choice q)
-  unfolding deliveredMessage stamping unstampedWrite switchRead stampedWrite directRead normalRead completion reply contextRead directContext normalContext contextReply droppingRow answeringContext refusing dropping passing
-  edits-message choice (UnstampedWrite o x v) =
-      let P : Switched → Type 0 = λ u. Fine g at (changingSwitch g u) in
-      both P (allPermit (g .store) (numberIn (g .switch)))
-      (both (λ (d : Decision). P (switched d (marked (g .switch) x))) (eqb (stampFor (g .switch) x) 0) out (λ t. refl, omega arith, λ t. inside)) out
-  edits-message choice (SwitchRead o x) =
-      let P : Decision → Type 0 = λ d. Fine g at (keeping g d) in
-      both P (directIn (g .switch)) (both P (eqb (lookedUp (g .switch) x) 0) (λ t. refl, omega arith, λ t. inside) (λ t. refl, omega arith, λ t. inside)) (λ t. refl, omega arith, λ t. inside)
-  edits-message choice (StampedWrite r w) =
-      let P : Stored → Type 0 = λ u. Fine g at (changingStore g u) in
-      both P (isMember (g .store) r)
-      (both P (accepts (g .store) (tableOf (g .store) r) (w .stamp))
-      (both P (isTail (g .store) r) (both P (overfull (g .held) 1 2) (none g at) (λ t. refl, omega arith, λ t. inside)) out) out) out
-  edits-message choice (DirectRead r number t o x) =
-      let P : Decision → Type 0 = λ d. Fine g at (keeping g d) in
-      both P (isMember (g .store) r) (both P (answersDirect (g .store) (tableOf (g .store) r) x number t) (λ t. refl, omega arith, λ t. inside) (λ t. refl, omega arith, λ t. inside)) out
-  edits-message choice (NormalRead r o x t) =
-      let P : Decision → Type 0 = λ d. Fine g at (keeping g d) in
-      both P (isMember (g .store) r) (both P (isTail (g .store) r) (λ t. refl, omega arith, λ t. inside) (λ t. refl, omega arith, λ t. inside)) out
-  edits-message choice (Completion x t) = out
-  edits-message choice (Reply o v t f) = both (λ (u : Opened). Fine g at (changingOpens g u)) (isOpen (g .opens) o) out out
-  edits-message choice (ContextRead o r) =
-      let P : Opened → Type 0 = λ u. Fine g at (changingOpens g u) in
-      both P (isContext (contextAt (g .opens) r)) (both P (goesDirectly (g .switch) (contextAt (g .opens) r)) (λ t. refl, omega arith, λ t. inside) (λ t. refl, omega arith, λ t. inside)) out
-  edits-message choice (DirectContext q number t o r) =
-      let P : Opened → Type 0 = λ u. Fine g at (changingOpens g u) in
-      both P (isMember (g .store) q)
-      (both P (isContext (contextAt (g .opens) r))
-      (both P (answersContext (g .store) (tableOf (g .store) q) number t (contextAt (g .opens) r)) (λ t. refl, omega arith, λ t. inside) (λ t. refl, omega arith, λ t. inside)) out) out
-  edits-message choice (NormalContext q o r) =
-      let P : Opened → Type 0 = λ u. Fine g at (changingOpens g u) in
-      both P (isMember (g .store) q)
-      (both P (isContext (contextAt (g .opens) r)) (both P (isTail (g .store) q) (λ t. refl, omega arith, λ t. inside) (λ t. refl, omega arith, λ t. inside)) out) out
-  edits-message choice (ContextReply o r) =
-      let P : Opened → Type 0 = λ u. Fine g at (changingOpens g u) in
-      both P (isOpen (g .opens) o) (both P (isCount (contextAt (g .opens) r .count)) out out) out
-  edits-message choice Unknown = out
-
-edits-begin : (g : Given) (isWrite : Bool) (x v : ℕ) → Edits (g .held) 0 (beginOperation (g .opens) (g .held) isWrite x v .decision .edit)
-unfolding beginOperation refusing
-edits-begin g isWrite x v =
-    let P : Opened → Type 0 = λ u. Edits (g .held) 0 (u .decision .edit) in
-    both P (leb limits.objects x) (none g 0)
-    (both P (leb limits.lastOperation (lastGiven (g .opens))) (none g 0)
-    (both P (roomToOpen (g .opens)) (both P (overfull (g .held) 0 1) (none g 0) (λ t. not-taken t, omega arith, λ t. not-taken t)) (none g 0)))
-
--- so for every step
-edits-decided : (g : Given) (p : Packet) (x : Step) → Edits (g .held) (positionOf x) (decided g p x .decision .edit)
-unfolding decided delivered leaving lost copied repeated beginOperation beginContext advancing replacing telling removing joining copyingOn givingUp positionOf refusing dropping
-edits-decided g p (Start n) = none g 0
-edits-decided g p (BeginRead x) = edits-begin g false x 0
-edits-decided g p (BeginWrite x v) = edits-begin g true x v
-edits-decided g p (Deliver at choice) =
-    by-test (Fine g at) (leb (g .held) at) _ _ (λ outside. none g at)
-    (λ within. let inside = leb-false (g .held) at within in
-    both (Fine g at) (leb limits.objects (p .object)) (out g at inside) (edits-message g at inside choice (messageOf p)))
-edits-decided g p (Lose at) =
-    by-test (λ (u : Opened). Fine g at (changingOpens g u)) (leb (g .held) at) _ _ (λ outside. none g at) (λ within. out g at (leb-false (g .held) at within))
-edits-decided g p (Repeat at) =
-    let P : Opened → Type 0 = λ u. Fine g at (changingOpens g u) in
-    both P (leb (g .held) at) (none g at)
-    (both P (isUnstamped p) (none g at)
-    (both P (overfull (g .held) 0 1) (none g at)
-    (both P (isOfContext p) (both P (ltb (freeRow (g .opens)) limits.contexts) (λ t. not-taken t, omega arith, λ t. not-taken t) (none g at)) (λ t. not-taken t, omega arith, λ t. not-taken t))))
-edits-decided g p (Advance r) =
-    let P : Stored → Type 0 = λ u. Fine g 0 (changingStore g u) in
-    both P (isMember (g .store) r)
-    (both P (eqb (pendingAt (g .store) (placeOf (g .store) r) (tableOf (g .store) r)) 0) (none g 0)
-    (both P (isTail (g .store) r) (both P (overfull (g .held) 0 2) (none g 0) (λ t. not-taken t, omega arith, λ t. not-taken t)) (none g 0))) (none g 0)
-edits-decided g p (Replace number) = both (λ (u : Switched). Fine g 0 (changingSwitch g u)) (leb number (numberIn (g .switch))) (none g 0) (none g 0)
-edits-decided g p (Tell r) = both (λ (u : Stored). Fine g 0 (changingStore g u)) (isMember (g .store) r) (none g 0) (none g 0)
-edits-decided g p (Remove r) =
-    let P : Stored → Type 0 = λ u. Fine g 0 (changingStore g u) in
-    both P (isMember (g .store) r) (both P (leb (liveCount (g .store)) 1) (none g 0) (none g 0)) (none g 0)
-edits-decided g p (GiveUp o) = both (λ (u : Opened). Fine g 0 (changingOpens g u)) (isOpen (g .opens) o) (none g 0) (none g 0)
-edits-decided g p (BeginContext x) =
-    let P : Opened → Type 0 = λ u. Fine g 0 (changingOpens g u) in
-    both P (areObjects (contextOf x))
-    (both P (areDifferent (contextOf x))
-    (both P (leb limits.lastOperation (lastGiven (g .opens))) (none g 0)
-    (both P (roomToOpen (g .opens))
-    (both P (overfull (g .held) 0 1) (none g 0) (both P (ltb (freeRow (g .opens)) limits.contexts) (λ t. not-taken t, omega arith, λ t. not-taken t) (none g 0)))
-    (none g 0))) (none g 0)) (none g 0)
-edits-decided g p Join =
-    let P : Stored → Type 0 = λ u. Fine g 0 (changingStore g u) in
-    both P (isFull (g .store)) (none g 0) (both P (isJoining (g .store)) (none g 0) (none g 0))
-edits-decided g p Copy =
-    let P : Stored → Type 0 = λ u. Fine g 0 (changingStore g u) in
-    both P (isJoining (g .store)) (both P (leb limits.replicas (liveCount (g .store))) (none g 0) (none g 0)) (none g 0)
-
 added-one : (e : Edit) → e .add ≡ 1 → added e ≡ e .first ∷ []
 unfolding added
 added-one e one = rw one
 
-module _ (w : WaitingList) (roomy : waiting.Roomy w) (exact : waiting.Exact w) (e : Edit) (at : ℕ) (f : Edits (held w) at e) where
+module _ (w : WaitingList) (roomy : waiting.Roomy w) (exact : waiting.Exact w) (x : Step) (d : Decision) (f : Edits x (held w) d) where
+  abbrev e : Edit
+  e = d .edit
+
+  abbrev at : ℕ
+  at = positionOf x
+
   -- an edit that does not fit changes nothing; one that does keeps every message but the one that it takes out
   still-waits : (q : Message) → q ∈ messages w → (e .take ≡ true → q ≡ messageOf (lookAt (w .packets) at) → ⊥) → q ∈ messages (edited w e)
   still-waits q i other = go (e .take) refl
@@ -441,19 +341,19 @@ module _ (w : WaitingList) (roomy : waiting.Roomy w) (exact : waiting.Exact w) (
 
       keeps : e .take ≡ false → Dec (64 < held w + e .add) → q ∈ messages (edited w e)
       keeps t (yes full) = stays-in (waiting.edited-over w e exact t full)
-      keeps t (no fits) = subst (λ (l : List Message). q ∈ l) (sym (staying w e roomy exact t (f .1) (omega (arith, fits)))) (in-left (map messageOf (added e)) i)
+      keeps t (no fits) = subst (λ (l : List Message). q ∈ l) (sym (staying w e roomy exact t (f .most) (omega (arith, fits)))) (in-left (map messageOf (added e)) i)
 
       takes : e .take ≡ true → e .at < held w → Dec (64 < held w - 1 + e .add) → q ∈ messages (edited w e)
       takes t inside (yes full) = stays-in (waiting.edited-over-taking w e t inside full)
       takes t inside (no fits) =
           let s = at-position w (e .at) roomy inside in
           elim (cases-insert (front (e .at) w) (messageOf (lookAt (w .packets) (e .at))) (back (e .at) w) (subst (λ (l : List Message). q ∈ l) (s .split) i)) [
-            | inl k ↦ absurd (other t (k ∙ ap (λ (j : ℕ). messageOf (lookAt (w .packets) j)) (f .0 t)))
-            | inr k ↦ subst (λ (l : List Message). q ∈ l) (sym (taking w e roomy t inside (f .1) (omega (arith, fits)))) (in-left (map messageOf (added e)) k)
+            | inl k ↦ absurd (other t (k ∙ ap (λ (j : ℕ). messageOf (lookAt (w .packets) j)) (f .at-is t)))
+            | inr k ↦ subst (λ (l : List Message). q ∈ l) (sym (taking w e roomy t inside (f .most) (omega (arith, fits)))) (in-left (map messageOf (added e)) k)
           ]
 
       go : (b : Bool) → e .take ≡ b → q ∈ messages (edited w e)
-      go true t = takes t (omega (arith, f .0 t, f .2 t)) (decLt 64 (held w - 1 + e .add))
+      go true t = takes t (omega (arith, f .at-is t, f .inside t)) (decLt 64 (held w - 1 + e .add))
       go false t = keeps t (decLt 64 (held w + e .add))
 
   -- one that is added waits
@@ -470,13 +370,13 @@ module _ (w : WaitingList) (roomy : waiting.Roomy w) (exact : waiting.Exact w) (
       go (inl t) = (
         messageOf (e .first),
         subst (λ (l : List Message). messageOf (e .first) ∈ l)
-            (sym (taking w e roomy (t .0) (t .1) (f .1) (omega (arith, a .one, t .1, waiting.held-most w)))) (there' (front (e .at) w ++ back (e .at) w)),
+            (sym (taking w e roomy (t .0) (t .1) (f .most) (omega (arith, a .one, t .1, waiting.held-most w)))) (there' (front (e .at) w ++ back (e .at) w)),
         a .names,
       )
       go (inr t) = (
         messageOf (e .first),
         subst (λ (l : List Message). messageOf (e .first) ∈ l)
-            (sym (staying w e roomy exact (t .0) (f .1) (omega (arith, a .one, room w 0 1 (t .1))))) (there' (messages w)),
+            (sym (staying w e roomy exact (t .0) (f .most) (omega (arith, a .one, room w 0 1 (t .1))))) (there' (messages w)),
         a .names,
       )
 
@@ -486,36 +386,36 @@ module _ (w : WaitingList) (roomy : waiting.Roomy w) (exact : waiting.Exact w) (
 abbrev Covered : Machine → Type 0
 Covered m = (r : ℕ) → Used (m .opens) r → NamedIn (messages (m .waiting)) r
 
-covered-done : {m : Machine} {h : History} {es : List Entry} (g : Good m h es) → waiting.Roomy (m .waiting) → (x : Step) → Covered m
+covered-done : {m : Machine} {h : History} {es : List Entry} (g : Good m h es) → waiting.Roomy (m .waiting) → Known m → (x : Step) → Covered m
     → Covered (done m (decided (givenBy m) (lookAt (m .waiting .packets) (positionOf x)) x))
-covered-done {m} g wide x c r n = elim (rows-decided (givenBy m) (g .books .cells) p x r n) [
-  | inl a ↦ added-waits (m .waiting) wide (g .exact) e (positionOf x) f r a
+covered-done {m} g wide k x c r n = elim (rows-decided (givenBy m) (g .books .cells) p x r n) [
+  | inl a ↦ added-waits (m .waiting) wide (g .exact) x d f r a
   | inr t ↦
       let (q, i, names) = c r (t .0) in
-      (q, still-waits (m .waiting) wide (g .exact) e (positionOf x) f q i (λ taken is. t .1 (taken, subst (λ (k : Message). NamesRow k r) is names)), names)
+      (q, still-waits (m .waiting) wide (g .exact) x d f q i (λ taken is. t .1 (taken, subst (λ (z : Message). NamesRow z r) is names)), names)
 ]
   where
     p : Packet
     p = lookAt (m .waiting .packets) (positionOf x)
 
-    e : Edit
-    e = decided (givenBy m) p x .decision .edit
+    d : Decision
+    d = decided (givenBy m) p x .decision
 
-    f : Edits (held (m .waiting)) (positionOf x) e
-    f = edits-decided (givenBy m) p x
+    f : Edits x (held (m .waiting)) d
+    f = edits-decided g wide k x
 
-covered-after : {m : Machine} {h : History} {es : List Entry} (g : Good m h es) (x : Step) → Covered m → Covered (after m x)
+covered-after : {m : Machine} {h : History} {es : List Entry} (g : Good m h es) → Known m → (x : Step) → Covered m → Covered (after m x)
 unfolding after decidedIn
-covered-after {m} g x c =
+covered-after {m} g k x c =
     let P : Outcome → Type 0 = λ u. Covered (done m u) in
     let stays : (r : Refusal) → P (keeping (givenBy m) (refusing r)) = λ r. subst Covered (sym (refused-stays m r)) c in
     both P (isMalformed x) (stays Format)
     (by-test P (ltb (length (m .waiting .packets)) limits.waiting) _ _ (λ short. stays BufferTooShort)
-    (λ wide. covered-done g (ltb-false (length (m .waiting .packets)) limits.waiting wide) x c))
+    (λ wide. covered-done g (ltb-false (length (m .waiting .packets)) limits.waiting wide) k x c))
 
-covered-reached : {m : Machine} {h : History} {es : List Entry} → Good m h es → Covered m → (xs : List Step) → Covered (reached m xs)
-covered-reached g c [] = c
-covered-reached g c (x ∷ xs) = covered-reached (good-after g x) (covered-after g x c) xs
+covered-reached : {m : Machine} {h : History} {es : List Entry} → Good m h es → Known m → Covered m → (xs : List Step) → Covered (reached m xs)
+covered-reached g k c [] = c
+covered-reached g k c (x ∷ xs) = covered-reached (good-after g x) (known-after g k x) (covered-after g k x c) xs
 
 -- ---- there is a free row
 
@@ -563,7 +463,7 @@ row-free n low high row wide xs few = go (decLt (freeRow (m .opens)) 64)
     m = machineOf n row xs
 
     covered : Covered m
-    covered = covered-reached (good-start n low high row) (λ r u. absurd (u (size-none r))) xs
+    covered = covered-reached (good-start n low high row) (known-start n row) (λ r u. absurd (u (size-none r))) xs
 
     go : Dec (freeRow (m .opens) < 64) → freeRow (m .opens) < 64
     go (yes free) = free

@@ -139,7 +139,7 @@ gave-up m o =
     refused e = absurd (let z : _≡_ {A = ℕ} 0 1 = cc in omega arith)
 
 -- the history of a run in two parts
-history-append : (m : Machine) (h : History) (xs ys : List Step) → historyFrom m h (xs ++ ys) ≡ historyFrom (reached m xs) (historyFrom m h xs) ys
+pub history-append : (m : Machine) (h : History) (xs ys : List Step) → historyFrom m h (xs ++ ys) ≡ historyFrom (reached m xs) (historyFrom m h xs) ys
 history-append m h [] ys = refl
 history-append m h (x ∷ xs) ys = history-append (after m x) (noted x (answerTo m x) h) xs ys
 

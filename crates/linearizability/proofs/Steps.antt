@@ -24,8 +24,8 @@ use Rattle.operations.specs.{isOpen, lastGiven, roomToOpen, opening, closing}
 use Rattle.operations.proofs.Behind.{same-last}
 use Rattle.operations.proofs.Laws.{SizedOpens, sized-opening, last-opening, open-before, once-opening, last-closing}
 use Rattle.contexts.specs.declared.Objects.{Objects}
-use Rattle.contexts.specs.{contextOf, numbersOf, areObjects, areDifferent, isNaming, sizeAt, contextAt, freeRow, holding}
-use Rattle.contexts.proofs.Places.{naming-some, objects-small}
+use Rattle.contexts.specs.{contextOf, numbersOf, areObjects, areDifferent, isCount, isNaming, sizeAt, contextAt, freeRow, holding}
+use Rattle.contexts.proofs.Places.{naming-count, objects-small}
 use Rattle.contexts.proofs.Rows.{Apart, size-is, context-opening, context-closing, context-apart, opens-holding, sized-holding, size-held, numbers-held, free-apart}
 use Rattle.store.specs.declared.Write.{Write}
 use Rattle.store.specs.{liveCount, appliedBy}
@@ -57,7 +57,7 @@ use Rattle.log.proofs.Beside.{places-handing, shows-handing, entries-handing}
 use Rattle.log.proofs.Joined.{JoinInvariant, joined-permitting, joined-applying, joined-handing, joined-beginning, shows-copying, joined-copying, at-head-copying}
 use Rattle.log.proofs.Without.{shows-ended, ended-live, ended-count, without-is, joined-without, at-head-without}
 use Rattle.linearizability.specs.Run.{begunCount, noted}
-use Rattle.linearizability.proofs.Packets.{Asks, Names, unstampedOne, unstamped-append, asks-none}
+use Rattle.linearizability.proofs.Packets.{Asks, Names, not-free, unstampedOne, unstamped-append, asks-none}
 use Rattle.linearizability.proofs.Core.{Core, core-begin, core-add, core-join, core-rows, core-cut, core-reset, core-ask}
 use Rattle.linearizability.proofs.Order.{core-outcome}
 use Rattle.linearizability.proofs.Waits.{messages, front, back, Stands, stands-in, at-position, edited-nothing, added-packet, added-one, added-two}
@@ -188,7 +188,7 @@ module _ {m : Machine} {h : History} {es : List Entry} (g : Good m h es) (wide :
 
   -- a row that is named is another
   taken : row < 64 → (q : Message) → q ∈ messages (m .waiting) → (r : ℕ) → Names q r → Apart row r
-  taken free q i r n = free-apart (m .opens) r free (g .core .packets .used q r i n)
+  taken free q i r n = free-apart (m .opens) r free (not-free (sizeAt (m .opens) r) (g .core .packets .used q r i n))
 
   context-core : row < 64 → Core (begun (suc (begunCount h)) (reads objects) ∷ h) es (g .issued) (g .log) (g .n)
       (messages (m .waiting) ++ ContextRead number row ∷ []) (committedIn (m .switch)) cells
@@ -199,7 +199,7 @@ module _ {m : Machine} {h : History} {es : List Entry} (g : Good m h es) (wide :
       (ContextRead number row)
       (here (λ j. begun (next-is g j) (reads (numbers-held (opening (m .opens) number) row (contextOf x) sized j)))) (λ p q. q)
       (λ q i r s n e d. taken free q i r n (ap (λ (k : ℕ). k % limits.contexts) e ∙ sym d))
-      (λ r e z. omega (arith, naming-some x named, subst (λ (k : ℕ). sizeAt cells k ≡ 0) (sym e) z, size-held (opening (m .opens) number) row (contextOf x) sized))
+      (λ r e. subst (λ (k : ℕ). isCount (sizeAt cells k) ≡ true) e (ap isCount (size-held (opening (m .opens) number) row (contextOf x) sized) ∙ naming-count x named))
 
   good-context-begins : areObjects (contextOf x) ≡ true → lastGiven (m .opens) < 65535 → roomToOpen (m .opens) ≡ true → overfull (held (m .waiting)) 0 1 ≡ false → row < 64
       → Begins (opened (deciding (addOne (packetOf (ContextRead number row)))) cells)
@@ -312,13 +312,13 @@ module _ {m : Machine} {h : History} {es : List Entry} (g : Good m h es) (wide :
       let v = contextAt l was in
       let z = g .books .cells in
       let i : q was ∈ messages (m .waiting) = subst (λ (p : Message). p ∈ messages (m .waiting)) (holds was) (stands-in s) in
-      let used : sizeAt l was ≡ 0 → ⊥ = g .core .packets .used (q was) was i (family-names family was) in
-      let apart : (p : Message) → p ∈ messages (m .waiting) → (k : ℕ) → Names p k → Apart r k = λ p j k n. free-apart l k free (g .core .packets .used p k j n) in
+      let used : isCount (sizeAt l was) ≡ true = g .core .packets .used (q was) was i (family-names family was) in
+      let apart : (p : Message) → p ∈ messages (m .waiting) → (k : ℕ) → Names p k → Apart r k = λ p j k n. free-apart l k free (not-free (sizeAt l k) (g .core .packets .used p k j n)) in
       let core : Core h es (g .issued) (g .log) (g .n) (messages (m .waiting) ++ q r ∷ []) (committedIn (m .switch)) (holding l r v) =
       core-join (core-rows (g .core) (λ p j k n. context-apart l r v k (apart p j k n))) (q r)
       (family-fine family h es (g .issued) _ l (holding l r v) was r (numbers-held l r v z) (g .core .packets .fine (q was) i)) (family-asks family r)
       (λ p j k t n o d. apart p j k n (ap (λ (y : ℕ). y % limits.contexts) (sym (family-only family r t o)) ∙ sym d))
-      (λ k n e. used (sym (size-is l was) ∙ sym (size-held l r v z) ∙ subst (λ (y : ℕ). sizeAt (holding l r v) y ≡ 0) (family-only family r k n) e)) in
+      (λ k n. subst (λ (y : ℕ). isCount (sizeAt (holding l r v) y) ≡ true) (sym (family-only family r k n)) (ap isCount (size-held l r v z ∙ size-is l was) ∙ used)) in
       rw (order-stays m (machine (m .switch) (m .store) (holding l r v) (edited (m .waiting) (addOne (inRow packet r)))) es refl)
       (good-of (g .issued) (g .log) (g .n) (messages (m .waiting) ++ q r ∷ [])
       (added-packet (m .waiting) wide (g .exact) (inRow packet r) roomy ∙ ap (λ (p : Message). messages (m .waiting) ++ p ∷ []) (holds r)) core (g .shown) (g .joined)
@@ -378,14 +378,14 @@ module _ {m : Machine} {h : History} {es : List Entry} (g : Good m h es) (number
   abbrev Advances : Stored → Type 0
   Advances u = Then (Advance number) m h es (changingStore (givenBy m) u)
 
-  small : write .object < 1024
-  small = log-small g write (rw (oldest-is (g .shown) r live p) (in-getD (g .log) (appliedBy (m .store) r) noWrite (oldest-below (g .shown) r live p)))
+  pub oldest-small : write .object < 1024
+  oldest-small = log-small g write (rw (oldest-is (g .shown) r live p) (in-getD (g .log) (appliedBy (m .store) r) noWrite (oldest-below (g .shown) r live p)))
 
   good-advanced : (r ≡ tailOf (m .store) → ⊥) → Advances (stored (deciding noEdit) store)
   good-advanced other =
       let s : Shows store (g .log) (g .n) = shows-advanced (g .shown) r live p (g .core .visible .rising) (log-small g) other in
       rw (order-stays m (done m (changingStore (givenBy m) (stored (deciding noEdit) store))) es (s .tail-has ∙ sym (g .shown .tail-has)))
-      (good-store g store s (joined-applying (m .store) r write (g .joined) live (g .shown .live) small other)
+      (good-store g store s (joined-applying (m .store) r write (g .joined) live (g .shown .live) oldest-small other)
       (at-head-same (places-applying (m .store) r write) (g .joined .places)))
 
   -- the tail hands the write on to a newcomer
@@ -398,7 +398,7 @@ module _ {m : Machine} {h : History} {es : List Entry} (g : Good m h es) (number
   good-advanced-tail : waiting.Roomy (m .waiting) → r ≡ tailOf (m .store) → overfull (held (m .waiting)) 0 2 ≡ false → Advances (stored (deciding (sending write)) handed)
   good-advanced-tail wide last roomy =
       let one-more : Shows store (g .log) (suc (g .n)) = shows-advanced-tail (g .shown) r live p (g .core .visible .rising) (log-small g) last in
-      let s : Shows handed (g .log) (suc (g .n)) = shows-handing one-more (places-same (places-applying (m .store) r write) (g .joined .places)) write small in
+      let s : Shows handed (g .log) (suc (g .n)) = shows-handing one-more (places-same (places-applying (m .store) r write) (g .joined .places)) write oldest-small in
       let long : suc (g .n) ≤ length (g .log) = oldest-tail-below (g .shown) r live p last in
       let one : slice (g .n) (suc (g .n)) (g .log) ≡ write ∷ [] = visible-advanced-tail (g .shown) r live p last in
       let sent : List Message = Reply (write .operation) (write .value) 0 noFreshness ∷ Completion (write .object) (write .stamp) ∷ [] in
@@ -408,7 +408,7 @@ module _ {m : Machine} {h : History} {es : List Entry} (g : Good m h es) (number
       rw shown
       (good-of (g .issued) (g .log) (suc (g .n)) (messages (m .waiting) ++ sent)
       (added-two (m .waiting) wide (g .exact) (Reply (write .operation) (write .value) 0 noFreshness) (Completion (write .object) (write .stamp)) roomy) c s
-      (joined-handing (m .store) r write (g .joined) live (g .shown .live) small (g .shown .sized) last)
+      (joined-handing (m .store) r write (g .joined) live (g .shown .live) oldest-small (g .shown .sized) last)
       (λ q i. placed-by (m .store) handed (at-head-same places-handed (g .joined .places)) q
       (elim (cases-append (messages (m .waiting)) i) [ inl j ↦ g .posted q j | inr j ↦ answer q j ]))
       (g .books) (omega (arith, g .counted, unstamped-append (messages (m .waiting)) sent)) (g .switch-holds) (waiting.exact-edited (m .waiting) _ (g .exact)))

@@ -1,5 +1,5 @@
 -- Req 04: what is written into the newcomer's table while it joins leaves the log shown as it was: no live replica has that table.
-use mathlib.Core.Path.{_≡_, refl, sym, ap, _∙_, subst}
+use mathlib.Core.Path.{_≡_, refl, sym, _∙_, subst}
 use mathlib.Core.Bool.{Bool, true, false, cond}
 use mathlib.Core.List.{List, _∷_}
 use Prim.Native.Nat.{ℕ, zero, suc, _+_, _*_, _≤_, _<_}
@@ -7,7 +7,7 @@ use native.Mathlib.Omega.{arith}
 use lib.Dec.{ltb}
 use Rattle.store.specs.declared.Write.{Write}
 use Rattle.store.specs.{liveCount, members, orderAt, appliedBy, entryAt, tabled}
-use Rattle.chain.specs.{chainPlace, isLive, memberAt, headOf, tailOf}
+use Rattle.chain.specs.{chainPlace, isLive, headOf, tailOf}
 use Rattle.replicas.specs.Links.{entries}
 use Rattle.joins.specs.{isJoining, copiesMade, newcomer, holdingOf, copiedObject, copied, isCopied, handingOn}
 use Rattle.chain.proofs.Members.{by-test, count-most, member-order, live-in, place-at, place-below}

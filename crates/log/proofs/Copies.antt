@@ -1,12 +1,11 @@
 -- Req 04: what a copy leaves in the tables: the copied objects are at the newcomer as they are at the tail, and nothing else changes.
-use mathlib.Core.Path.{_≡_, refl, sym, ap, _∙_}
+use mathlib.Core.Path.{_≡_, refl, sym, _∙_}
 use mathlib.Core.Bool.{true}
 use mathlib.Core.List.{List}
 use Prim.Native.Nat.{ℕ, zero, suc, _+_, _*_, _≤_, _<_}
 use native.Mathlib.Decide.{decLt, ℕ-discrete}
 use native.Mathlib.Omega.{arith}
 use Rattle.limits.specs as limits
-use Rattle.store.specs.declared.Write.{Write}
 use Rattle.store.specs.{highestOf, permittedBy, appliedBy, entryAt, valueAt, stampAt, tabled}
 use Rattle.chain.specs.{tailOf}
 use Rattle.joins.specs.{isJoining, copiesMade, newcomer, holdingOf, copiedObject, copied, oneCopy}

@@ -1,26 +1,26 @@
 -- Req 04: what holds of the places and of a newcomer's copies in every run, and that everything the replicas do keeps it.
-use mathlib.Core.Path.{_≡_, refl, sym, ap, _∙_, subst}
-use mathlib.Core.Bool.{Bool, true, false, cond}
+use mathlib.Core.Path.{_≡_, sym, ap, _∙_, subst}
+use mathlib.Core.Bool.{Bool, true, false}
 use mathlib.Core.List.{List}
 use Prim.Native.Nat.{ℕ, _+_, _-_, _*_, _%_, _≤_, _<_}
 use native.Mathlib.Decide.{ℕ-discrete}
 use native.Mathlib.Omega.{arith}
 use lib.Dec.{eqb, ltb}
-use lib.ListN.{getD, set, length-set}
+use lib.ListN.{set}
 use lib.Seq.{getD-set-same}
-use borrow.Author.Tests.{ltb-true, ltb-false, eqb-true, eqb-false}
+use borrow.Author.Tests.{ltb-false, eqb-true, eqb-false}
 use Rattle.store.specs.declared.Write.{Write}
 use Rattle.store.specs.{joinCell, liveCount, valueAt, stampAt, logged, tabled}
 use Rattle.chain.specs.{isLive, tailOf, permitting, emptyStore}
-use Rattle.joins.specs.{isJoining, copiesMade, newcomer, isFull, lastNumber, beginning, promoted, oneCopy, copying, isCopied, handingOn}
+use Rattle.joins.specs.{isJoining, copiesMade, newcomer, lastNumber, beginning, promoted, oneCopy, copying, isCopied, handingOn}
 use Rattle.replicas.specs.Replicas.{applying}
 use Rattle.chain.proofs.Members.{by-test, tail-same}
 use Rattle.replicas.proofs.Cells.{SizedStore, Named, within, value-tabled-same, stamp-tabled-same, value-tabled-other, stamp-tabled-other}
 use Rattle.replicas.proofs.Cells.{sized-applying, value-applying-same, stamp-applying-same, value-applying-other, stamp-applying-other, value-logged, stamp-logged, value-permitting, stamp-permitting}
-use Rattle.log.proofs.Shows.{ShowsTo, Shows, tail-live, tail-in}
+use Rattle.log.proofs.Shows.{Shows, tail-live, tail-in}
 use Rattle.log.proofs.Kept.{SameReplicas, value-kept, stamp-kept, members-kept, shows-kept, replicas-join}
 use Rattle.log.proofs.Places.{Places, AtHead, SamePlaces, live-count-same, newcomer-same, members-as, joining-same, copies-same, places-order, places-same, places-applying, places-logged, places-permitting, places-trans, places-start, none-joins, order-join, at-head-order, at-head-same}
-use Rattle.log.proofs.Joins.{places-beginning, copies-beginning, sized-beginning}
+use Rattle.log.proofs.Joins.{places-beginning, copies-beginning}
 use Rattle.log.proofs.Copies.{SameAt, Alike, CopiedSoFar, places-copied, copied-further, copies-few}
 use Rattle.log.proofs.Beside.{newcomer-named, newcomer-apart, live-named-in, places-handing, shows-copied}
 use Rattle.log.proofs.Promotion.{joining-promoted, places-promoted, at-head-promoted}

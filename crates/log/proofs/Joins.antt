@@ -18,7 +18,7 @@ use Rattle.chain.proofs.Members.{count-most, place-below}
 use Rattle.replicas.proofs.Shape.{count-removed, cell-before, cell-behind, cell-last}
 use Rattle.replicas.proofs.Cells.{SizedStore, within, kept-removed}
 use Rattle.log.proofs.Kept.{SameReplicas}
-use Rattle.log.proofs.Places.{Places, JoiningPlace, AtHead}
+use Rattle.log.proofs.Places.{Places, AtHead}
 
 -- a join can begin: there is a place, and a number
 pub not-full : (s : List ℕ) → isFull s ≡ false → (liveCount s < 8) × (lastNumber s < 255)

@@ -2,7 +2,7 @@
 use mathlib.Core.Path.{_≡_, refl, sym, ap, _∙_}
 use mathlib.Core.Bool.{Bool, true, false}
 use mathlib.Core.List.{List, []}
-use Prim.Native.Nat.{ℕ, _+_, _-_, _≤_, _<_}
+use Prim.Native.Nat.{ℕ, _+_, _-_, _<_}
 use native.Mathlib.Nat.{sub-self}
 use native.Mathlib.Decide.{ℕ-discrete}
 use native.Mathlib.Omega.{arith}
@@ -15,7 +15,7 @@ use Rattle.chain.specs.{chainPlace, isLive, memberAt, tailOf}
 use Rattle.replicas.specs.Replicas.{pending}
 use Rattle.replicas.specs.Links.{entries, linkInto}
 use Rattle.joins.specs.{isJoining, copiesMade, newcomer, promoted, oneCopy, copying}
-use Rattle.chain.proofs.Members.{by-test, tail-is, member-in, in-live, live-in, place-at, place-below, below-live, place-found, member-same, place-same, live-same}
+use Rattle.chain.proofs.Members.{by-test, tail-is, member-in, in-live, place-at, place-below, below-live, member-same, place-same, live-same}
 use Rattle.replicas.proofs.Cells.{SizedStore, row-apart}
 use Rattle.replicas.proofs.Moves.{pending-head, pending-behind}
 use Rattle.replicas.proofs.Descending.{Descending, place-is}
@@ -27,7 +27,7 @@ use Rattle.log.proofs.Copies.{Alike, applied-copied, entry-copied}
 use Rattle.log.proofs.Beside.{live-named-in, newcomer-named, newcomer-apart}
 use Rattle.log.proofs.Promotion.{count-promoted, member-promoted, member-promoted-last, entry-promoted, applied-promoted-own, applied-promoted}
 use Rattle.log.proofs.Newcomer.{shows-promoted}
-use Rattle.log.proofs.Joined.{JoinInvariant, free, few-left, noted-replicas, copy-places, copy-shows, copy-newcomer, copy-free, all-alike}
+use Rattle.log.proofs.Joined.{JoinInvariant, few-left, noted-replicas, copy-places, copy-shows, copy-newcomer, copy-free, all-alike}
 
 -- how much a live replica's link holds is told by its place, by the one before it and by what the two have applied
 pending-same : (s t : List ℕ) (r : ℕ) → chainPlace t r ≡ chainPlace s r → (0 < chainPlace s r → memberAt t (chainPlace s r - 1) ≡ memberAt s (chainPlace s r - 1))

@@ -1,8 +1,8 @@
 -- Req 04: 'when the newcomer becomes the tail its tables are the old tail's, object by object', with the old tail's highest stamp and permitted switch.
-use mathlib.Core.Path.{_≡_, refl, sym, ap, _∙_}
+use mathlib.Core.Path.{_≡_, refl, ap, _∙_}
 use mathlib.Core.Bool.{true}
 use mathlib.Core.List.{List}
-use Prim.Native.Nat.{ℕ, _+_, _-_, _*_, _≤_, _<_}
+use Prim.Native.Nat.{ℕ, _+_, _-_, _*_, _<_}
 use native.Mathlib.Omega.{arith}
 use Rattle.store.specs.declared.Write.{Write}
 use Rattle.store.specs.{liveCount, highestOf, permittedBy, valueAt, stampAt}

@@ -1,18 +1,15 @@
 -- Req 04: the newcomer becomes the tail. 'In a run, when the newcomer becomes the tail its tables are the old tail's, object by object': so the log is shown as before.
-use mathlib.Core.Path.{_≡_, refl, sym, ap, _∙_, subst}
-use mathlib.Core.Bool.{true}
+use mathlib.Core.Path.{_≡_, sym, ap, _∙_, subst}
 use mathlib.Core.List.{List}
-use Prim.Native.Nat.{ℕ, _+_, _-_, _≤_, _<_}
+use Prim.Native.Nat.{ℕ, _+_, _-_, _<_}
 use native.Mathlib.Decide.{decLt}
 use native.Mathlib.Omega.{arith}
-use lib.ListN.{length, take}
-use Rattle.history.specs.History.{_∈_}
 use Rattle.store.specs.declared.Write.{Write}
-use Rattle.store.specs.{liveCount, members, orderAt, rowOf, appliedBy}
-use Rattle.chain.specs.{chainPlace, isLive, memberAt, headOf, tailOf}
+use Rattle.store.specs.{liveCount, orderAt, rowOf, appliedBy}
+use Rattle.chain.specs.{chainPlace, memberAt, tailOf}
 use Rattle.joins.specs.{newcomer, promoted}
 use Rattle.chain.proofs.Members.{head-is, tail-is, member-order, in-live, live-in, member-in, place-at, place-below}
-use Rattle.replicas.proofs.Cells.{SizedStore, Named, row-apart}
+use Rattle.replicas.proofs.Cells.{SizedStore, row-apart}
 use Rattle.replicas.proofs.Descending.{Descending}
 use Rattle.log.proofs.Holds.{Holds}
 use Rattle.log.proofs.Shows.{Shows, tail-live}

@@ -5,7 +5,7 @@ use mathlib.Core.List.{List}
 use Prim.Native.Nat.{ℕ, _+_, _-_, _<_}
 use native.Mathlib.Omega.{arith}
 use borrow.Author.Tests.{eqb-false}
-use Rattle.store.specs.{liveCount, numberAt}
+use Rattle.store.specs.{liveCount}
 use Rattle.chain.specs.{chainPlace, memberAt, headOf, tailOf, placeOf, isMember, isTail, tableOf, headNumber}
 use Rattle.replicas.specs.Replicas.{pendingAt, pending}
 use Rattle.chain.proofs.Members.{head-is, tail-is}

@@ -1,5 +1,5 @@
 -- Req 04: a stamped write comes to the head while a replica joins.
-use mathlib.Core.Path.{_≡_, sym, ap, _∙_}
+use mathlib.Core.Path.{_≡_, sym, _∙_}
 use mathlib.Core.Bool.{true}
 use mathlib.Core.List.{List}
 use Prim.Native.Nat.{ℕ, _<_}
@@ -8,12 +8,11 @@ use Rattle.store.specs.declared.Write.{Write}
 use Rattle.store.specs.{liveCount, appliedBy, logged}
 use Rattle.chain.specs.{isLive, tailOf}
 use Rattle.joins.specs.{handingOn}
-use Rattle.replicas.specs.Replicas.{applying, taking}
+use Rattle.replicas.specs.Replicas.{taking}
 use Rattle.chain.proofs.Members.{live-same, count-same, tail-same}
 use Rattle.replicas.proofs.Cells.{SizedStore, sized-logged, members-logged}
 use Rattle.replicas.proofs.Moves.{taking-is}
 use Rattle.log.proofs.Places.{SamePlaces, places-trans, places-logged, places-applying}
-use Rattle.log.proofs.Beside.{places-handing}
 use Rattle.log.proofs.Joined.{JoinInvariant, joined-logged, joined-applying, joined-handing}
 
 pub places-taking : (s : List ℕ) (r : ℕ) (w : Write) → SamePlaces s (taking s r w)

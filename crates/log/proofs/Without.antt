@@ -1,24 +1,24 @@
 -- Req 04: a replica is removed by its number. Without its tail a join ends; otherwise the newcomer goes on, and what was copied stays alike.
-use mathlib.Core.Path.{_≡_, refl, sym, ap, _∙_, subst}
+use mathlib.Core.Path.{_≡_, refl, sym, ap, _∙_}
 use mathlib.Core.Bool.{Bool, true, false, not}
 use mathlib.Core.List.{List}
-use Prim.Native.Nat.{ℕ, _+_, _-_, _*_, _≤_, _<_}
+use Prim.Native.Nat.{ℕ, _+_, _-_, _<_}
 use native.Mathlib.Omega.{arith}
 use lib.Dec.{eqb}
-use lib.ListN.{getD, set}
+use lib.ListN.{set}
 use lib.Seq.{getD-set-same}
 use borrow.Author.Tests.{eqb-false}
 use Rattle.store.specs.declared.Write.{Write}
-use Rattle.store.specs.{joinCell, liveCount, members}
+use Rattle.store.specs.{joinCell, liveCount}
 use Rattle.chain.specs.{chainPlace, isLive, memberAt, tailOf, placeOf, isMember, isTail, tableOf, removed}
-use Rattle.joins.specs.{isJoining, copiesMade, newcomer, joinEnded, without}
+use Rattle.joins.specs.{isJoining, newcomer, joinEnded, without}
 use Rattle.chain.proofs.Members.{by-test, live-same, place-same, count-same, tail-is}
 use Rattle.chain.proofs.Numbers.{member-below, table-live}
 use Rattle.replicas.proofs.Cells.{SizedStore, within, value-removed, stamp-removed}
 use Rattle.replicas.proofs.Shape.{count-removed, member-removed-behind}
 use Rattle.log.proofs.Shows.{Shows}
 use Rattle.log.proofs.Kept.{SameReplicas, members-kept, shows-kept, replicas-join}
-use Rattle.log.proofs.Places.{Places, AtHead, places-order, order-join, at-head-order}
+use Rattle.log.proofs.Places.{AtHead, places-order, order-join, at-head-order}
 use Rattle.log.proofs.Tables.{table-place}
 use Rattle.log.proofs.Joins.{joining-left, copies-left, newcomer-left, places-removed, at-head-removed}
 use Rattle.log.proofs.Copies.{CopiedSoFar}

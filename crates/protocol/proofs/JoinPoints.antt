@@ -1,8 +1,8 @@
 -- Document 02, Req 04, as rows of computed tests: refusals in their order, also in states that no run reaches, and what a join changes.
 use mathlib.Core.Path.{_≡_, refl}
-use mathlib.Core.Bool.{Bool, true, false, not}
+use mathlib.Core.Bool.{Bool, true, not}
 use mathlib.Core.List.{List, [], _∷_}
-use Prim.Native.Nat.{ℕ, _+_, _-_, _*_, _/_, _%_}
+use Prim.Native.Nat.{ℕ, _+_}
 use lib.Dec.{eqb}
 use lib.ListN.{set}
 use Rattle.lists.specs.{indexOf, listOf, moves}
@@ -13,8 +13,6 @@ use Rattle.chain.specs.{memberAt, numbers, placeOf, isMember, isTail, tableOf, 
 use Rattle.joins.specs.{isJoining, copiesMade, newcomer, newcomerNumber, lastNumber, isFull, beginning, isCopied, handingOn, joinEnded, without}
 use Rattle.switch.specs.DirtySet.{newSwitch}
 use Rattle.waiting.specs.Waiting.{heldIn, noneWait, lookAt}
-use Rattle.protocol.specs.declared.Decision.{Decision}
-use Rattle.protocol.specs.declared.Message.{Message}
 use Rattle.protocol.specs.declared.Message.the-variants.{NormalRead, Reply}
 use Rattle.protocol.specs.declared.Step.{Step}
 use Rattle.protocol.specs.declared.Step.the-variants.{Advance, Tell, Remove, Join, Copy}

@@ -1,5 +1,8 @@
 -- Document 01, 'Turned down': the number of each refusal. Document 02, Req 01: the number of each word that a read's line can end with.
+use mathlib.Core.Bool.{Bool, true, false}
 use Prim.Native.Nat.{ℕ}
+use Rattle.protocol.specs.declared.Answer.{Answer}
+use Rattle.protocol.specs.declared.Answer.the-variants.{Done, Finished, FinishedContext, Refused}
 use Rattle.protocol.specs.declared.Refusal.{Refusal}
 use Rattle.protocol.specs.declared.Refusal.the-variants.{Format, Replicas, ObjectNumber, OperationsUsedUp, OpenFull, WaitingFull, NoPacket, UnstampedRepeat, NotLive, NoLinkedWrite, SwitchNumber, LastReplica, NotOpen, InputTooLong, BufferTooShort, SameObject, ChainFull, JoinUnderWay, NoJoin}
 
@@ -33,3 +36,10 @@ oldRead = 1
 
 abbrev pub newRead : ℕ
 newRead = 2
+
+-- the step was not refused
+abbrev pub isAccepted : Answer → Bool
+isAccepted Done = true
+isAccepted (Finished o v f) = true
+isAccepted (FinishedContext o v) = true
+isAccepted (Refused r) = false
