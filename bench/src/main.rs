@@ -45,7 +45,7 @@ fn main() {
 
 /// The kinds whose files run to their end.
 fn kinds() -> impl Iterator<Item = &'static str> {
-    let ends = ["damaged", "noise"];
+    let ends = ["damaged", "noise", "give-ups"];
     let names = KINDS.iter().map(|(name, _)| *name);
     names.filter(move |name| !ends.contains(name))
 }

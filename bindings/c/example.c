@@ -50,9 +50,9 @@ static void print_chain(void) {
 }
 
 static void print_held(uint8_t replica, uint32_t object) {
-    uint32_t stamp = woldladle_stamp(model.store, replica, object);
+    uint64_t stamp = woldladle_stamp(model.store, replica, object);
     printf("replica %u holds %u of object %u, with stamp (%u,%u)\n", replica, (unsigned)woldladle_value(model.store, replica, object), (unsigned)object,
-           (unsigned)(stamp / 65536), (unsigned)(stamp % 65536));
+           (unsigned)(stamp >> 32), (unsigned)(uint32_t)stamp);
 }
 
 /* A write through replicas 1 and 2, from its begin to its completion. */

@@ -6,10 +6,10 @@
  * What a session is lent, and nothing else: the libraries allocate no memory and keep nothing between calls.
  *
  *   struct woldladle_session        64 bytes, aligned to 8
- *   uint32_t switch_numbers[101]    404 bytes: the switch, its marks and how many of them count
- *   uint32_t store[16675]           66,700 bytes: the chain, the values and stamps of its replicas and of one that joins, and the writes in the links
+ *   uint32_t switch_numbers[150]    600 bytes: the switch, its marks and how many of them count
+ *   uint32_t store[24939]           99,756 bytes: the chain, the values and stamps of its replicas and of one that joins, and the writes in the links
  *   uint32_t opens[642]             2,568 bytes: the open operations, and a row for each waiting packet of a read of several objects
- *   packets[64]                     1,536 bytes: the waiting packets, oldest first; a longer array is taken too, and its first 64 places are used
+ *   packets[64]                     1,536 bytes, aligned to 8: the waiting packets, oldest first; a longer array is taken too, and its first 64 places are used
  *
  * struct woldladle_model has all of it. The session is set to zeros before its first start; the rest may hold anything. From an accepted start on nobody but the
  * library writes in it, until the next accepted start. No pointer is kept, and what is lent lies apart. A `length` is in bytes; `places` counts packets, and `count`
@@ -25,8 +25,8 @@
 extern "C" {
 #endif
 
-#define WOLDLADLE_SWITCH 101
-#define WOLDLADLE_STORE 16675
+#define WOLDLADLE_SWITCH 150
+#define WOLDLADLE_STORE 24939
 #define WOLDLADLE_OPENS 642
 #define WOLDLADLE_PLACES 64
 #define WOLDLADLE_REPLICAS 8        /* the most that are live at a time */
@@ -34,9 +34,9 @@ extern "C" {
 #define WOLDLADLE_LONGEST_CONTEXT 8 /* the most objects that one read names */
 #define WOLDLADLE_SHORTEST_RECORD 3 /* tags 12 and 13, which have no content */
 #define WOLDLADLE_LONGEST_RECORD 19
-#define WOLDLADLE_LONGEST_LINE 137
+#define WOLDLADLE_LONGEST_LINE 147
 #define WOLDLADLE_LONGEST_INPUT 65536
-#define WOLDLADLE_OUTPUT_ROOM 3014656 /* room for the output of any input, which has 21,845 records at the most */
+#define WOLDLADLE_OUTPUT_ROOM 3276800 /* room for the output of any input, which has 21,845 records at the most */
 
 /* What a finished read says, if its object had a counting mark when the switch sent it to the tail: the stamp of its value is below the mark's (old), or it is not (new).
  * A read of several objects says neither. */
@@ -56,14 +56,16 @@ struct woldladle_session {
 };
 
 struct woldladle_packet {
-    uint32_t own[6];
+    uint64_t own[3];
 };
 
 /* A start with n replicas, numbered 1 to n: an empty store, and the session all zeros. Refusal 2 (n outside 1 to 8): the session before it can go on. */
 void woldladle_start(struct woldladle_session *session, uint32_t *switch_numbers, uint32_t *store, uint32_t *opens, uint8_t n);
 
 /* The step of one record, all of whose `length` bytes are lent. Refusals in this order: 1 where the bytes are not one whole record, and for a start; 15 where there are
- * fewer than 64 places for packets; 3 to 13 as document 01 has them, and 16, where a read of several objects names one twice, after 3 and before 4.
+ * fewer than 64 places for packets; 3 to 13 as document 01 has them (4 once operation 4,294,967,295 is given), and 16, where a read of several objects names one twice, after 3 and before 4.
+ *
+ * Tag 10, which gives an operation up, is taken with length 4 and with length 2; both mean the same number.
  *
  * Tag 12 begins the join of a replica, which gets the next number never used, and each tag 13 copies the next 64 objects to it from the tail. The sixteenth copy makes it
  * the tail; before that it is not live. To remove the tail ends the join. Refused: tag 12 by 17 where eight replicas are live or number 255 has been given, then by 18 where
@@ -73,10 +75,11 @@ void woldladle_step(struct woldladle_session *session, uint32_t *switch_numbers,
 
 /* The line that the run program prints for record `number`, from the session's fields: where an operation finished, the first `count` values, one at the least and eight
  * at the most, and `freshness` where that is one value. How many bytes, 0 where `out` is too short and left as it was. */
-size_t woldladle_line(uint32_t number, uint8_t refusal, uint32_t operation, uint32_t count, const uint32_t values[WOLDLADLE_LONGEST_CONTEXT], uint32_t freshness,
+size_t woldladle_line(uint64_t number, uint8_t refusal, uint32_t operation, uint32_t count, const uint32_t values[WOLDLADLE_LONGEST_CONTEXT], uint32_t freshness,
                       size_t waiting, uint32_t marks, uint8_t *out, size_t length);
 
-/* Writes the record of a tag with its numbers in their order, 0 for one that it does not have; tags 12 and 13 have none. 0; or 1 where no such record exists, and for tag
+/* Writes the record of a tag with its numbers in their order, 0 for one that it does not have; tags 12 and 13 have none, and tag 10 takes any operation and is written with
+ * length 4. 0; or 1 where no such record exists, and for tag
  * 11, whose record woldladle_write_context writes; or 15 where `out` is too short. A refusal leaves `out` as it was. */
 uint8_t woldladle_write_record(uint8_t tag, uint32_t first, uint32_t second, uint8_t *out, size_t length);
 
@@ -87,11 +90,11 @@ uint8_t woldladle_write_context(const uint16_t *objects, size_t count, uint8_t *
 /* How many bytes the record of a tag has, from 3 (tags 12 and 13) to 9; 0 for an unknown tag, and for tag 11, whose record has no fixed length. */
 uint16_t woldladle_record_length(uint8_t tag);
 
-/* The value and the stamp (switch number times 65,536, and counter) of an object at a replica, by its number, 1 to 255. Only the live replicas and one that joins hold
+/* The value and the stamp (switch number times 4,294,967,296, and counter) of an object at a replica, by its number, 1 to 255. Only the live replicas and one that joins hold
  * any: 0 where there is no such replica or object, and from the step on that removes a replica or ends its join. One that joins has an object from the copy of it on, and
  * 0 before. */
 uint32_t woldladle_value(const uint32_t *store, uint8_t replica, uint32_t object);
-uint32_t woldladle_stamp(const uint32_t *store, uint8_t replica, uint32_t object);
+uint64_t woldladle_stamp(const uint32_t *store, uint8_t replica, uint32_t object);
 
 /* How many replicas are live. `out` gets eight numbers of live replicas in chain order, the head's first, 0 behind the last; then the number of the replica that joins, or
  * 0; then how many copies it has, 0 to 15, or 0 where none joins. */
@@ -121,7 +124,7 @@ static inline uint8_t woldladle_model_step(struct woldladle_model *model, const 
     return model->session.refusal;
 }
 
-static inline size_t woldladle_model_line(const struct woldladle_model *model, uint32_t number, uint8_t *out, size_t length) {
+static inline size_t woldladle_model_line(const struct woldladle_model *model, uint64_t number, uint8_t *out, size_t length) {
     const struct woldladle_session *s = &model->session;
     return woldladle_line(number, s->refusal, s->operation, s->count, s->values, s->freshness, s->waiting, s->marks, out, length);
 }

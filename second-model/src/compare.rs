@@ -8,7 +8,7 @@ pub use shorten::shorten;
 use crate::generate::{generate, length, small_length, Random, KINDS, SMALL};
 use crate::model::{Age, Finished, Refusal, Way};
 use crate::order::{find_order, history};
-use crate::records::pieces;
+use crate::records::{given_up_in_four_bytes, given_up_in_two_bytes, pieces};
 use crate::run::{output, walk, Outcome};
 use crate::words::describe;
 use std::fs::{self, File};
@@ -38,6 +38,7 @@ pub struct Tally {
     pub new: usize,
     pub contexts: Contexts,
     pub joins: Joins,
+    pub give_ups: GiveUps,
     pub refusals: [usize; 20],
     pub orders: usize,
     pub ordered_operations: usize,
@@ -106,6 +107,40 @@ impl Joins {
     }
 }
 
+/// How often a give-up of each length was accepted and refused.
+#[derive(Clone, Copy, Debug, Default)]
+pub struct GiveUps {
+    pub short: usize,
+    pub short_refused: usize,
+    pub long: usize,
+    pub long_refused: usize,
+}
+
+impl GiveUps {
+    /// Counts a record if it is a give-up.
+    fn count(&mut self, piece: &[u8], outcome: Outcome) {
+        let short = given_up_in_two_bytes(piece).is_some();
+        let long = given_up_in_four_bytes(piece).is_some();
+        match (short, long, outcome) {
+            (true, _, Ok(_)) => self.short += 1,
+            (true, _, Err(Refusal::NotOpen)) => self.short_refused += 1,
+            (_, true, Ok(_)) => self.long += 1,
+            (_, true, Err(Refusal::NotOpen)) => self.long_refused += 1,
+            _ => {}
+        }
+    }
+
+    /// Each with its name and number.
+    pub fn rows(&self) -> [(&'static str, usize); 4] {
+        [
+            ("give-up 2, ok", self.short),
+            ("give-up 2, no 13", self.short_refused),
+            ("give-up 4, ok", self.long),
+            ("give-up 4, no 13", self.long_refused),
+        ]
+    }
+}
+
 impl Tally {
     /// Counts a compared file.
     pub fn count(&mut self, input: &[u8]) {
@@ -114,7 +149,11 @@ impl Tally {
         let pieces = pieces(input);
         walk(input, |number, outcome| {
             self.count_line(outcome);
-            if let (Ok(_), Some(piece)) = (outcome, pieces.get(number.wrapping_sub(1))) {
+            let Some(piece) = pieces.get(number.wrapping_sub(1)) else {
+                return;
+            };
+            self.give_ups.count(piece, outcome);
+            if outcome.is_ok() {
                 self.joins.count(piece[0]);
             }
         });
@@ -153,11 +192,21 @@ impl Tally {
         self.contexts.rejected += other.contexts.rejected;
         self.joins.begun += other.joins.begun;
         self.joins.whole += other.joins.whole;
+        self.give_ups.short += other.give_ups.short;
+        self.give_ups.short_refused += other.give_ups.short_refused;
+        self.give_ups.long += other.give_ups.long;
+        self.give_ups.long_refused += other.give_ups.long_refused;
         self.orders += other.orders;
         self.ordered_operations += other.ordered_operations;
         for (ours, theirs) in self.refusals.iter_mut().zip(other.refusals) {
             *ours += theirs;
         }
+    }
+
+    /// The rows about contexts, joins and give-ups.
+    pub fn rows(&self) -> impl Iterator<Item = (&'static str, usize)> {
+        let rows = self.contexts.rows().into_iter().chain(self.joins.rows());
+        rows.chain(self.give_ups.rows())
     }
 
     /// The last line and the table of answers.
@@ -170,7 +219,7 @@ impl Tally {
         row("finished", self.finished);
         row("old", self.old);
         row("new", self.new);
-        for (name, times) in self.contexts.rows().into_iter().chain(self.joins.rows()) {
+        for (name, times) in self.rows() {
             row(name, times);
         }
         for (number, &times) in self.refusals.iter().enumerate().skip(1) {
@@ -202,11 +251,29 @@ pub fn with_commas(number: usize) -> String {
     text
 }
 
+/// The files of so many kinds, the first ones, have one run of numbers; those of
+/// each later kind have their own.
+const FIRST_KINDS: usize = 23;
+
+/// The number by which the file with this index is drawn. A kind that is added
+/// leaves those of the others as they were.
+fn drawn_by(index: usize) -> usize {
+    let (round, place) = (index / KINDS.len(), index % KINDS.len());
+    match place.checked_sub(FIRST_KINDS) {
+        None => round * FIRST_KINDS + place,
+        Some(later) => ((later + 1) << 24) + round,
+    }
+}
+
 /// The file with this index of a comparison: its kind and bytes. Those from
 /// `files` on are the small runs, a third of them with reads of contexts and a
 /// third with joins.
 pub fn file(task: &Task, index: usize) -> (&'static str, Vec<u8>) {
-    let mut random = Random::new(task.seed.wrapping_add((index as u64) << 32));
+    let number = match index < task.files {
+        true => drawn_by(index),
+        false => index,
+    };
+    let mut random = Random::new(task.seed.wrapping_add((number as u64) << 32));
     random.draw();
     let kind = match index < task.files {
         true => KINDS[index % KINDS.len()].0,
@@ -342,6 +409,38 @@ mod tests {
         for line in [
             "join, begun                   3",
             "join, whole                   1",
+        ] {
+            assert!(report.contains(line), "{report}");
+        }
+    }
+
+    #[test]
+    fn no_two_files_are_drawn_alike() {
+        let mut numbers: Vec<usize> = (0..100_000).map(drawn_by).collect();
+        assert_eq!((numbers[22], numbers[24], numbers[47 + 1]), (22, 23, 46));
+        assert_eq!((numbers[23], numbers[47]), (1 << 24, (1 << 24) + 1));
+        numbers.sort_unstable();
+        numbers.dedup();
+        assert_eq!(numbers.len(), 100_000);
+    }
+
+    /// Give-ups of both lengths, and one that ends the run as a fault.
+    #[test]
+    fn give_ups_are_counted_by_their_length() {
+        let input = words::file(
+            "start 1; 3 * read 5; give up 1; give up 1; give up 70000; give up 2 in two bytes; \
+             give up 3 in two bytes; give up 1 in two bytes; bytes 10 0 3 0 0 1; give up 4",
+        );
+        let mut tally = Tally::default();
+        tally.count(&input);
+        let mut twice = tally.clone();
+        twice.add(&tally);
+        let times = |tally: &Tally| tally.give_ups.rows().map(|(_, times)| times);
+        assert_eq!((times(&tally), times(&twice)), ([2, 1, 1, 2], [4, 2, 2, 4]));
+        let report = tally.report();
+        for line in [
+            "give-up 2, ok                 2",
+            "give-up 4, no 13              2",
         ] {
             assert!(report.contains(line), "{report}");
         }

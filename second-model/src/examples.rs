@@ -5,17 +5,22 @@
 //! They stand in tables of text, a paragraph each: `name: steps => last line`.
 //! A paragraph `let name: steps` gives some steps a name, for use as `{name}`
 //! further down.
+//!
+//! An example whose give-ups all have operations of two bytes has a twin, in which
+//! they have length 2; it prints the same lines. Twins stand last.
 
 mod context_refusals;
 mod contexts;
 mod deliveries;
 mod ends;
+mod give_ups;
 mod joins;
 mod marks;
 mod refusals;
 mod removals;
 mod rounds;
 
+use crate::records::{given_up_in_four_bytes, in_two_bytes, pieces};
 use crate::run::output;
 use crate::words::file;
 use std::fs;
@@ -23,7 +28,7 @@ use std::io;
 use std::path::Path;
 
 /// The tables, in the order in which the examples are listed.
-const TABLES: [&str; 9] = [
+const TABLES: [&str; 10] = [
     ends::TABLE,
     refusals::TABLE,
     marks::TABLE,
@@ -33,18 +38,37 @@ const TABLES: [&str; 9] = [
     context_refusals::TABLE,
     contexts::TABLE,
     joins::TABLE,
+    give_ups::TABLE,
 ];
+
+/// What a twin has behind the name of its example.
+const TWIN: &str = "-length-2";
 
 /// A record file with a name, and the last line that it must print.
 pub struct Example {
-    pub name: &'static str,
+    pub name: String,
     pub input: Vec<u8>,
     pub last: &'static str,
 }
 
 /// Every example, each name once.
 pub fn all() -> Vec<Example> {
-    TABLES.iter().flat_map(|table| read_table(table)).collect()
+    let mut all: Vec<Example> = TABLES.iter().flat_map(|table| read_table(table)).collect();
+    let twins: Vec<Example> = all.iter().filter_map(twin).collect();
+    all.extend(twins);
+    all
+}
+
+/// The same example with length 2 for each give-up; none if it has no give-up of
+/// length 4, or one of an operation above 65,535.
+fn twin(example: &Example) -> Option<Example> {
+    let pieces = pieces(&example.input).into_iter();
+    let highest = pieces.filter_map(given_up_in_four_bytes).max()?;
+    (highest <= u32::from(u16::MAX)).then(|| Example {
+        name: example.name.clone() + TWIN,
+        input: in_two_bytes(&example.input),
+        last: example.last,
+    })
 }
 
 /// The examples of one table.
@@ -61,7 +85,7 @@ fn read_table(table: &'static str) -> Vec<Example> {
         match name.strip_prefix("let ") {
             Some(name) => named.push((format!("{{{name}}}"), words)),
             None => examples.push(Example {
-                name,
+                name: name.to_string(),
                 input: file(&words),
                 last: last.trim(),
             }),
@@ -84,10 +108,10 @@ pub fn write_all(folder: &Path) -> io::Result<usize> {
     let all = all();
     let mut index = String::new();
     for example in &all {
-        let path = folder.join(example.name);
+        let path = folder.join(&example.name);
         fs::write(path.with_extension("records"), &example.input)?;
         fs::write(path.with_extension("lines"), output(&example.input))?;
-        index += example.name;
+        index += &example.name;
         index.push('\n');
     }
     fs::write(folder.join("listing-cuts.lines"), listing_cuts())?;
@@ -121,7 +145,8 @@ mod tests {
         for example in all() {
             let plain = |c: char| c.is_ascii_lowercase() || c.is_ascii_digit() || c == '-';
             assert!(example.name.chars().all(plain), "{}", example.name);
-            assert!(seen.insert(example.name), "{}", example.name);
+            assert!(!seen.contains(&example.name), "{}", example.name);
+            seen.insert(example.name);
         }
         assert!(seen.len() >= 45);
         assert!(!seen.contains("listing-cuts"));
@@ -137,6 +162,9 @@ mod tests {
             .collect();
         assert_eq!(lengths.len(), 4);
         assert!(lengths.iter().all(|(named, length)| *named == Ok(*length)));
+        let name = "longest-input-ends-in-a-give-up";
+        let longest = all().into_iter().find(|e| e.name == name).unwrap();
+        assert_eq!(longest.input.len(), 65_536);
     }
 
     #[test]
@@ -192,12 +220,39 @@ mod tests {
         }
     }
 
-    /// 69 bytes in 12 records: each cut inside record k prints the lines
+    /// Every example with a give-up is there in both lengths, with the same lines,
+    /// as long as the operations have two bytes.
+    #[test]
+    fn give_ups_are_kept_in_both_lengths() {
+        let all = all();
+        let (mut twins, mut alone) = (0, 0);
+        let examples: Vec<Example> = TABLES.iter().flat_map(|table| read_table(table)).collect();
+        for example in &examples {
+            let short = in_two_bytes(&example.input);
+            let name = example.name.clone() + TWIN;
+            match all.iter().find(|e| e.name == name) {
+                Some(twin) => {
+                    assert_ne!(twin.input, example.input, "{name}");
+                    assert_eq!(twin.input, short, "{name}");
+                    assert_eq!(output(&twin.input), output(&example.input), "{name}");
+                    let long = pieces(&twin.input).into_iter();
+                    assert_eq!(long.filter_map(given_up_in_four_bytes).next(), None);
+                    twins += 1;
+                }
+                None if short == example.input => {}
+                None => alone += 1,
+            }
+        }
+        assert_eq!(all.len(), examples.len() + twins);
+        assert!(twins >= 30 && alone >= 2, "{twins}, {alone}");
+    }
+
+    /// 71 bytes in 12 records: each cut inside record k prints the lines
     /// before it and `k no 1`; each cut after record k prints k lines.
     #[test]
     fn the_cuts_of_the_listing() {
         let listing = all().remove(0).input;
-        assert_eq!(listing.len(), 4 + 9 + 7 * 6 + 4 + 5 + 5);
+        assert_eq!(listing.len(), 4 + 9 + 7 * 6 + 4 + 5 + 7);
         let cuts = String::from_utf8(listing_cuts()).unwrap();
         assert!(cuts.starts_with(
             "1 no 1\n1 no 1\n1 no 1\n1 no 1\n1 ok 0 0 - - -\n1 ok 0 0 - - -\n2 no 1\n"

@@ -5,7 +5,7 @@ mod author;
 mod mood;
 
 use crate::model::Step;
-use crate::records::{append, pieces, Record, LONGEST};
+use crate::records::{append, in_four_bytes, pieces, Record, LONGEST};
 use crate::run::INPUT_LONGEST;
 use author::Author;
 use mood::mood;
@@ -51,7 +51,7 @@ impl Random {
 
 /// The kinds of files, each with what it is about. A kind's place goes into its
 /// files' bytes, so a new one stands behind the others.
-pub const KINDS: [(&str, &str); 23] = [
+pub const KINDS: [(&str, &str); 24] = [
     ("accepted", "mostly accepted steps of every tag"),
     ("dense", "reads and writes of few objects"),
     ("full-waiting", "nearly full waiting list"),
@@ -96,6 +96,10 @@ pub const KINDS: [(&str, &str); 23] = [
         "joins and copies that are refused or of a wrong length",
     ),
     ("small-joins", "few operations, whole joins among them"),
+    (
+        "give-ups",
+        "give-ups of both lengths, of any operation, or of a wrong length",
+    ),
 ];
 
 /// The kinds of small runs, for which an order is looked for.
@@ -106,8 +110,8 @@ pub const SMALL: [&str; 3] = ["small", "small-contexts", "small-joins"];
 const MOODS: usize = 14;
 
 /// A file of a kind, from a seed, of at most this length (exactly this length
-/// except for `damaged`, `context-faults` and `join-faults`); none if there is no
-/// such kind.
+/// except for `damaged`, `context-faults`, `join-faults` and `give-ups`); none if
+/// there is no such kind.
 pub fn generate(kind: &str, seed: u64, length: usize) -> Option<Vec<u8>> {
     let place = KINDS.iter().position(|(name, _)| *name == kind)?;
     let mut random = Random::new(seed ^ (place as u64) << 56);
@@ -118,6 +122,7 @@ pub fn generate(kind: &str, seed: u64, length: usize) -> Option<Vec<u8>> {
         "random-steps" => random_steps(&mut random, length),
         "context-faults" => context_faults(&mut random, length),
         "join-faults" => join_faults(&mut random, length),
+        "give-ups" => give_ups(&mut random, length),
         _ => {
             let mood = mood(kind, &mut random, length);
             Author::new(mood, random).write(length)
@@ -137,6 +142,7 @@ pub fn length(kind: &str, random: &mut Random) -> usize {
         ("noise", _) => random.below(300),
         ("removals" | "pending-writes", 10..80) => random.within(100, 3000),
         ("context-faults" | "join-faults", 10..80) => random.within(100, 6000),
+        ("give-ups", 10..70) => random.within(30, 6000),
         (_, 10..50) => random.within(30_000, INPUT_LONGEST),
         (_, 50..75) => random.within(600, 30_000),
         _ => short,
@@ -193,7 +199,9 @@ fn random_steps(random: &mut Random, length: usize) -> Vec<u8> {
             3 | 4 => Step::Repeat { position: pair },
             5..=7 => Step::Advance { replica: byte },
             8 => Step::Tell { replica: byte },
-            9 => Step::GiveUp { operation: pair },
+            9 => Step::GiveUp {
+                operation: u32::from(pair),
+            },
             10 if random.chance(100) => Step::Replace { switch: pair },
             11 if random.chance(20) => Step::Remove { replica: byte },
             _ => Step::Deliver {
@@ -207,12 +215,27 @@ fn random_steps(random: &mut Random, length: usize) -> Vec<u8> {
     bytes
 }
 
+/// A run that gets a fault. Its give-ups have length 2, by which the fault's
+/// place is drawn; `with_long_give_ups` comes after it.
+fn unspoiled(kind: &str, random: &mut Random, length: usize) -> Vec<u8> {
+    let mut mood = mood(kind, random, length);
+    mood.short = 1000;
+    let seed = random.draw();
+    Author::new(mood, Random::new(seed)).write(length)
+}
+
+/// A file with its give-ups in four bytes, of at most this length.
+fn with_long_give_ups(mut bytes: Vec<u8>, length: usize) -> Vec<u8> {
+    bytes.truncate(length);
+    let mut long = in_four_bytes(&bytes);
+    long.truncate(length);
+    long
+}
+
 /// A run of some other kind with a fault put in its bytes.
 fn damaged(random: &mut Random, length: usize) -> Vec<u8> {
     let sound = random.one_of(&KINDS[..MOODS]).0;
-    let mood = mood(sound, random, length);
-    let seed = random.draw();
-    let mut bytes = Author::new(mood, Random::new(seed)).write(length);
+    let mut bytes = unspoiled(sound, random, length);
     if bytes.is_empty() {
         return bytes;
     }
@@ -233,17 +256,14 @@ fn damaged(random: &mut Random, length: usize) -> Vec<u8> {
         6 => insert(&mut bytes, anywhere, &[random.draw() as u8]),
         _ => spoil_start(&mut bytes, random),
     }
-    bytes.truncate(length);
-    bytes
+    with_long_give_ups(bytes, length)
 }
 
 /// A run with reads of contexts, many of them refused. Into most runs a record of
 /// tag 11 with a wrong length is put somewhere; in some the bytes of a record of
 /// tag 11 are damaged.
 fn context_faults(random: &mut Random, length: usize) -> Vec<u8> {
-    let mood = mood("context-faults", random, length);
-    let seed = random.draw();
-    let mut bytes = Author::new(mood, Random::new(seed)).write(length);
+    let mut bytes = unspoiled("context-faults", random, length);
     if bytes.is_empty() {
         return bytes;
     }
@@ -275,8 +295,7 @@ fn context_faults(random: &mut Random, length: usize) -> Vec<u8> {
         }
         _ => {}
     }
-    bytes.truncate(length);
-    bytes
+    with_long_give_ups(bytes, length)
 }
 
 /// A record of tag 11 with a wrong length, at times without all its content.
@@ -304,9 +323,7 @@ fn wrong_context(random: &mut Random) -> Vec<u8> {
 /// 12 or 13 with a wrong length is put somewhere; some are cut in their midst or
 /// have one bit changed.
 fn join_faults(random: &mut Random, length: usize) -> Vec<u8> {
-    let mood = mood("join-faults", random, length);
-    let seed = random.draw();
-    let mut bytes = Author::new(mood, Random::new(seed)).write(length);
+    let mut bytes = unspoiled("join-faults", random, length);
     if bytes.is_empty() {
         return bytes;
     }
@@ -335,8 +352,7 @@ fn join_faults(random: &mut Random, length: usize) -> Vec<u8> {
         }
         _ => {}
     }
-    bytes.truncate(length);
-    bytes
+    with_long_give_ups(bytes, length)
 }
 
 /// A record of tag 12 or 13 with a wrong length, or of the next tag, at times
@@ -351,6 +367,59 @@ fn wrong_join(random: &mut Random) -> Vec<u8> {
     };
     let mut bytes = vec![tag, high, low];
     bytes.extend((0..content).map(|_| random.below(14) as u8));
+    bytes
+}
+
+/// A run with give-ups of both lengths. Into some runs one with a wrong length is
+/// put somewhere; some have another length stated for one, end inside one, or end
+/// right behind one.
+fn give_ups(random: &mut Random, length: usize) -> Vec<u8> {
+    let mood = mood("give-ups", random, length);
+    let seed = random.draw();
+    let mut bytes = Author::new(mood, Random::new(seed)).write(length);
+    if bytes.is_empty() {
+        return bytes;
+    }
+    let (mut places, mut ours) = (Vec::new(), Vec::new());
+    let mut place = 0;
+    for piece in pieces(&bytes) {
+        places.push(place);
+        if piece[0] == 10 {
+            ours.push((place, piece.len()));
+        }
+        place += piece.len();
+    }
+    let anywhere = random.one_of(&places);
+    let (place, size) = match ours.as_slice() {
+        [] => (anywhere, 4),
+        ours => random.one_of(ours),
+    };
+    match random.below(20) {
+        0..6 => insert(&mut bytes, anywhere, &wrong_give_up(random)),
+        6..9 => spoil_length(&mut bytes, place, random),
+        9..16 => bytes.truncate(place + random.within(1, size - 1)),
+        16..18 => bytes.truncate(place + size),
+        _ => {}
+    }
+    bytes.truncate(length);
+    bytes
+}
+
+/// A record of tag 10 with a wrong length, at times without all its content.
+fn wrong_give_up(random: &mut Random) -> Vec<u8> {
+    let near = random.one_of(&[0, 1, 3, 3, 3, 5, 6, 7, 8]);
+    let far = random.one_of(&[10, 255, 256, 258, 260, 512, 514, 1024, 1028, 65_535]);
+    let length = match random.below(5) {
+        0 => far,
+        _ => near,
+    };
+    let [high, low] = (length as u16).to_be_bytes();
+    let content = match random.below(8) {
+        0 => random.below(length + 1),
+        _ => length,
+    };
+    let mut bytes = vec![10, high, low];
+    bytes.extend((0..content).map(|_| random.one_of(&[0, 0, 0, 1, 2, 3, 10])));
     bytes
 }
 
@@ -380,6 +449,7 @@ fn spoil_start(bytes: &mut Vec<u8>, random: &mut Random) {
 #[cfg(test)]
 mod tests {
     use super::*;
+    use crate::records::in_two_bytes;
     use crate::run::walk;
 
     #[test]
@@ -392,6 +462,7 @@ mod tests {
         assert_eq!(generate("no-such-kind", 7, 900), None);
     }
 
+    /// Where seven bytes are left a give-up may fit.
     #[test]
     fn the_length_is_met_and_most_files_end_whole() {
         for (kind, _) in &KINDS[..MOODS] {
@@ -401,16 +472,13 @@ mod tests {
                 let whole = pieces(&file)
                     .iter()
                     .all(|p| crate::records::read(p).is_some());
-                assert_eq!(
-                    whole,
-                    !matches!(length, 1..=3 | 5..=7 | 11),
-                    "{kind} {length}"
-                );
+                let small = matches!(length, 1..=3 | 5..=7);
+                assert!(length == 11 || whole != small, "{kind} {length}");
             }
         }
     }
 
-    /// As above; but where seven bytes are left a read of two objects may fit.
+    /// As above; a read of two objects may fit in seven bytes too.
     #[test]
     fn files_with_contexts_end_whole_too() {
         for kind in ["contexts", "small-contexts"] {
@@ -476,12 +544,14 @@ mod tests {
         }
     }
 
-    /// A checksum of two files of each of some kinds.
+    /// A checksum of the first four fifths of two files of each of some kinds, with
+    /// length 2 for each give-up.
     fn checksum(kinds: &[(&str, &str)]) -> u64 {
         let mut sum: u64 = 0;
         for (kind, _) in kinds {
             for (seed, length) in [(1, 900), (2, 5000)] {
-                for byte in generate(kind, seed, length).unwrap() {
+                let file = in_two_bytes(&generate(kind, seed, length).unwrap());
+                for &byte in file.iter().take(length / 5 * 4) {
                     sum = sum.wrapping_mul(0x100_0000_01b3) ^ u64::from(byte);
                 }
             }
@@ -489,11 +559,35 @@ mod tests {
         sum
     }
 
-    /// The kinds that stand before the contexts, and those before the joins:
-    /// their bytes stay as they are.
+    /// The kinds that stand before the contexts, those before the joins, and those
+    /// before the give-ups: but for the length of give-ups their bytes stay as
+    /// they were, up to where a file's length ends it.
     #[test]
     fn earlier_kinds_keep_their_bytes() {
-        assert_eq!(checksum(&KINDS[..17]), 15_296_580_026_681_900_764);
-        assert_eq!(checksum(&KINDS[17..20]), 14_597_963_099_636_317_467);
+        assert_eq!(checksum(&KINDS[..17]), 17_491_568_054_598_121_235);
+        assert_eq!(checksum(&KINDS[17..20]), 9_647_092_281_339_500_601);
+        assert_eq!(checksum(&KINDS[20..23]), 18_333_810_568_927_366_581);
+    }
+
+    /// Of the other kinds only those with faults in their bytes may have any.
+    #[test]
+    fn only_the_last_kind_has_short_give_ups() {
+        let count = |kind: &str, length: u8| -> usize {
+            let files = (0..20).map(|seed| generate(kind, seed, 3000).unwrap());
+            let ours = |p: &&[u8]| p.starts_with(&[10, 0, length]);
+            files
+                .map(|f| pieces(&f).into_iter().filter(ours).count())
+                .sum()
+        };
+        let faulty = ["damaged", "noise", "context-faults", "join-faults"];
+        let sound = KINDS[..23]
+            .iter()
+            .filter(|(kind, _)| !faulty.contains(kind));
+        for (kind, _) in sound {
+            assert_eq!(count(kind, 2), 0, "{kind}");
+        }
+        assert!(count("full-links", 4) >= 500);
+        let (short, long) = (count("give-ups", 2), count("give-ups", 4));
+        assert!(short >= 500 && long >= 500, "{short}, {long}");
     }
 }

@@ -1,6 +1,6 @@
 //! A second model of the session store machine of document 01, with Req 01, Req
-//! 02 and Req 04 of document 02: one switch, one chain of replicas, packets in
-//! every order.
+//! 02, Req 04 and Req 07 of document 02: one switch, one chain of replicas, packets
+//! in every order.
 
 pub mod compare;
 pub mod examples;

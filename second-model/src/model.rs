@@ -1,6 +1,6 @@
 //! The machine: a switch, a chain, the waiting packets and the open
 //! operations, and what each step does to them (document 01; document 02,
-//! Req 01, Req 02 and Req 04).
+//! Req 01, Req 02, Req 04 and Req 07).
 
 mod chain;
 mod few;
@@ -20,22 +20,23 @@ pub const REPLICAS: u8 = 8;
 /// The last number that a replica can have.
 pub const LAST_NUMBER: u8 = 255;
 
-/// Switch number and counter, compared by switch number first (P1).
+/// Switch number, 16 bits, and counter, 32 bits, compared by switch number first
+/// (P1).
 #[derive(Clone, Copy, Debug, Default, PartialEq, Eq, PartialOrd, Ord)]
-pub struct Stamp(u32);
+pub struct Stamp(u64);
 
 impl Stamp {
     /// The stamp (0,0).
     pub const ZERO: Stamp = Stamp(0);
 
     /// The stamp (switch, counter).
-    pub const fn new(switch: u16, counter: u16) -> Self {
-        Stamp((switch as u32) << 16 | counter as u32)
+    pub const fn new(switch: u16, counter: u32) -> Self {
+        Stamp((switch as u64) << 32 | counter as u64)
     }
 
     /// The switch number.
     pub const fn switch(self) -> u16 {
-        (self.0 >> 16) as u16
+        (self.0 >> 32) as u16
     }
 }
 
@@ -59,7 +60,7 @@ pub enum Step {
     Replace { switch: u16 },
     Tell { replica: u8 },
     Remove { replica: u8 },
-    GiveUp { operation: u16 },
+    GiveUp { operation: u32 },
     Context { objects: Objects },
     Join,
     Copy,
@@ -143,7 +144,7 @@ pub enum Way {
 /// values in the order given, the age and the way of its reply.
 #[derive(Clone, Copy, Debug, PartialEq, Eq)]
 pub struct Finished {
-    pub operation: u16,
+    pub operation: u32,
     pub values: Values,
     pub age: Age,
     pub way: Way,
@@ -160,12 +161,12 @@ pub type Answer = Result<Option<Finished>, Refusal>;
 #[derive(Clone, Copy, Debug, PartialEq, Eq)]
 pub enum Packet {
     UnstampedWrite {
-        operation: u16,
+        operation: u32,
         object: u16,
         value: u32,
     },
     Read {
-        operation: u16,
+        operation: u32,
         objects: Objects,
     },
     StampedWrite {
@@ -174,14 +175,14 @@ pub enum Packet {
     },
     DirectRead {
         to: u8,
-        operation: u16,
+        operation: u32,
         objects: Objects,
         switch: u16,
         committed: Stamp,
     },
     NormalRead {
         to: u8,
-        operation: u16,
+        operation: u32,
         objects: Objects,
         carried: Option<Stamp>,
         way: Way,
@@ -191,7 +192,7 @@ pub enum Packet {
         stamp: Stamp,
     },
     Reply {
-        operation: u16,
+        operation: u32,
         values: Values,
         carried: Option<Stamp>,
         age: Age,
@@ -199,38 +200,34 @@ pub enum Packet {
     },
 }
 
-/// The open operations: one bit for each number, and how many are set.
-struct OpenOperations {
-    bits: Vec<u64>,
-    count: usize,
-}
+/// The open operations, at most 64, in the order of their begins.
+struct OpenOperations(Vec<u32>);
 
 impl OpenOperations {
     fn new() -> Self {
-        OpenOperations {
-            bits: vec![0; 1024],
-            count: 0,
-        }
+        OpenOperations(Vec::with_capacity(FULL))
     }
 
-    fn contains(&self, operation: u16) -> bool {
-        self.bits[usize::from(operation / 64)] >> (operation % 64) & 1 == 1
+    fn count(&self) -> usize {
+        self.0.len()
+    }
+
+    fn contains(&self, operation: u32) -> bool {
+        self.0.contains(&operation)
     }
 
     /// Opens an operation that is not open.
-    fn insert(&mut self, operation: u16) {
-        self.bits[usize::from(operation / 64)] |= 1 << (operation % 64);
-        self.count += 1;
+    fn insert(&mut self, operation: u32) {
+        self.0.push(operation);
     }
 
     /// Closes an operation; says whether it was open.
-    fn remove(&mut self, operation: u16) -> bool {
-        let open = self.contains(operation);
-        if open {
-            self.bits[usize::from(operation / 64)] &= !(1 << (operation % 64));
-            self.count -= 1;
+    fn remove(&mut self, operation: u32) -> bool {
+        let place = self.0.iter().position(|&open| open == operation);
+        if let Some(place) = place {
+            self.0.remove(place);
         }
-        open
+        place.is_some()
     }
 }
 
@@ -254,7 +251,7 @@ fn held_of(replica: &Replica, objects: Objects) -> Few<Held> {
 /// The reply of a replica that holds this of the objects: it carries what its
 /// read carried, and the value's age is decided here. Only a read of one object
 /// carries a stamp.
-fn answered(operation: u16, held: Few<Held>, carried: Option<Stamp>, way: Way) -> Packet {
+fn answered(operation: u32, held: Few<Held>, carried: Option<Stamp>, way: Way) -> Packet {
     let age = match held.kept() {
         [only] => Age::of(only.stamp, carried),
         _ => Age::None,
@@ -268,13 +265,13 @@ fn answered(operation: u16, held: Few<Held>, carried: Option<Stamp>, way: Way) -
     }
 }
 
-/// The whole state of a run.
+/// The whole state of a run. `begun` is the last operation number given.
 pub struct Model {
     switch: Switch,
     chain: Chain,
     waiting: Vec<Packet>,
     open: OpenOperations,
-    begun: u16,
+    begun: u32,
 }
 
 impl Model {
@@ -339,7 +336,7 @@ impl Model {
 
     /// An operation on these objects, with its first packet. Order 3, 16, 4, 5,
     /// 6; one object alone is not named twice.
-    fn begin(&mut self, objects: &[u16], packet: impl FnOnce(u16) -> Packet) -> Answer {
+    fn begin(&mut self, objects: &[u16], packet: impl FnOnce(u32) -> Packet) -> Answer {
         if objects.iter().any(|&object| object >= OBJECTS) {
             return Err(Refusal::BadObject);
         }
@@ -347,7 +344,7 @@ impl Model {
             return Err(Refusal::NamedTwice);
         }
         let operation = self.begun.checked_add(1).ok_or(Refusal::NumbersUsedUp)?;
-        if self.open.count >= FULL {
+        if self.open.count() >= FULL {
             return Err(Refusal::TooManyOpen);
         }
         if self.waiting.len() >= FULL {
@@ -448,7 +445,7 @@ impl Model {
     }
 
     /// "Unstamped write, to the switch."
-    fn stamped(&mut self, operation: u16, object: u16, value: u32) -> Option<Packet> {
+    fn stamped(&mut self, operation: u32, object: u16, value: u32) -> Option<Packet> {
         if !self.chain.all_permit(self.switch.number) {
             return None;
         }
@@ -467,7 +464,7 @@ impl Model {
     /// "Read, to the switch": direct to the replica at place choice mod live, if
     /// direct reads are on and none of the objects has a counting mark, or
     /// normal to the tail. One object alone has its mark's stamp carried.
-    fn directed(&self, operation: u16, objects: Objects, choice: u8) -> Packet {
+    fn directed(&self, operation: u32, objects: Objects, choice: u8) -> Packet {
         let mut marks = objects.each().map(|o| self.switch.counting_mark(o));
         if !self.switch.direct_reads || marks.any(|mark| mark.is_some()) {
             let carried = match objects.kept() {
@@ -489,7 +486,7 @@ impl Model {
     /// A normal read to the replica that is the tail now.
     fn to_tail(
         &self,
-        operation: u16,
+        operation: u32,
         objects: Objects,
         carried: Option<Stamp>,
         way: Way,
@@ -600,7 +597,7 @@ impl Model {
     }
 
     /// Tag 10.
-    fn give_up(&mut self, operation: u16) -> Answer {
+    fn give_up(&mut self, operation: u32) -> Answer {
         if !self.open.remove(operation) {
             return Err(Refusal::NotOpen);
         }
@@ -693,17 +690,22 @@ impl Model {
 
     /// How many operations are open.
     pub fn open(&self) -> usize {
-        self.open.count
+        self.open.count()
     }
 
     /// Is this operation open?
-    pub fn is_open(&self, operation: u16) -> bool {
+    pub fn is_open(&self, operation: u32) -> bool {
         self.open.contains(operation)
     }
 
     /// The last operation number given, 0 if none.
-    pub fn begun(&self) -> u16 {
+    pub fn begun(&self) -> u32 {
         self.begun
+    }
+
+    /// The present switch's counter.
+    pub fn counter(&self) -> u32 {
+        self.switch.counter()
     }
 
     /// The last number given to a replica, live or not.
@@ -743,6 +745,19 @@ impl Model {
         if let Some(newest) = self.waiting.last_mut() {
             *newest = packet;
         }
+    }
+}
+
+/// States that no file reaches.
+#[cfg(test)]
+impl Model {
+    /// A start after which this is the last operation number given and the
+    /// switch's counter, for tests only.
+    pub fn start_for_tests(n: u8, begun: u32, counter: u32) -> Model {
+        let mut model = Model::start(n).expect("n from 1 to 8");
+        model.begun = begun;
+        model.switch.set_counter_for_tests(counter);
+        model
     }
 }
 

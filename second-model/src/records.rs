@@ -1,5 +1,8 @@
 //! Records: "a one-byte tag, a two-byte length, the content" (document 01;
-//! document 02, Req 02 and Req 04).
+//! document 02, Req 02, Req 04 and Req 07).
+//!
+//! A give-up has four bytes for its operation. Those with two are still read and
+//! mean the same number, but are not written.
 
 use crate::model::{Objects, Refusal, Step, MOST};
 
@@ -77,7 +80,10 @@ fn meaning(tag: u8, content: &[u8]) -> Option<Record> {
         (8, &[replica]) => Step::Tell { replica },
         (9, &[replica]) => Step::Remove { replica },
         (10, &[a, b]) => Step::GiveUp {
-            operation: two(a, b),
+            operation: u32::from(two(a, b)),
+        },
+        (10, &[a, b, c, d]) => Step::GiveUp {
+            operation: u32::from_be_bytes([a, b, c, d]),
         },
         (11, pairs) if matches!(pairs.len(), 4 | 6 | 8 | 10 | 12 | 14 | 16) => Step::Context {
             objects: pairs.chunks_exact(2).map(|p| two(p[0], p[1])).collect(),
@@ -138,7 +144,7 @@ fn laid_out(record: Record) -> Result<LaidOut, Refusal> {
         Step::Replace { switch } => pair(7, switch),
         Step::Tell { replica } => tagged(8, &[replica]),
         Step::Remove { replica } => tagged(9, &[replica]),
-        Step::GiveUp { operation } => pair(10, operation),
+        Step::GiveUp { operation } => tagged(10, &operation.to_be_bytes()),
         Step::Context { objects } => context(objects)?,
         Step::Join => tagged(12, &[]),
         Step::Copy => tagged(13, &[]),
@@ -163,6 +169,53 @@ pub fn append(record: Record, file: &mut Vec<u8>) {
     file.extend_from_slice(&bytes[..size]);
 }
 
+/// Adds a give-up with length 2 to the end of a file under way.
+pub fn append_in_two_bytes(operation: u16, file: &mut Vec<u8>) {
+    file.extend_from_slice(&[10, 0, 2]);
+    file.extend_from_slice(&operation.to_be_bytes());
+}
+
+/// The operation of a give-up that is laid out with length 2.
+pub fn given_up_in_two_bytes(piece: &[u8]) -> Option<u16> {
+    match *piece {
+        [10, 0, 2, a, b] => Some(two(a, b)),
+        _ => None,
+    }
+}
+
+/// The operation of a give-up that is laid out with length 4.
+pub fn given_up_in_four_bytes(piece: &[u8]) -> Option<u32> {
+    match *piece {
+        [10, 0, 4, a, b, c, d] => Some(u32::from_be_bytes([a, b, c, d])),
+        _ => None,
+    }
+}
+
+/// A file with length 2 for each give-up whose operation has two bytes.
+pub fn in_two_bytes(file: &[u8]) -> Vec<u8> {
+    let mut short = Vec::with_capacity(file.len());
+    for piece in pieces(file) {
+        let operation = given_up_in_four_bytes(piece).and_then(|o| u16::try_from(o).ok());
+        match operation {
+            Some(operation) => append_in_two_bytes(operation, &mut short),
+            None => short.extend_from_slice(piece),
+        }
+    }
+    short
+}
+
+/// A file with length 4 for each give-up.
+pub fn in_four_bytes(file: &[u8]) -> Vec<u8> {
+    let mut long = Vec::with_capacity(file.len());
+    for piece in pieces(file) {
+        match given_up_in_two_bytes(piece).map(u32::from) {
+            Some(operation) => append(Record::Step(Step::GiveUp { operation }), &mut long),
+            None => long.extend_from_slice(piece),
+        }
+    }
+    long
+}
+
 /// The pieces of a file by the lengths its records state; what is too short
 /// for a record is the last piece.
 pub fn pieces(file: &[u8]) -> Vec<&[u8]> {
@@ -184,7 +237,7 @@ pub fn pieces(file: &[u8]) -> Vec<&[u8]> {
 mod tests {
     use super::*;
 
-    fn all() -> [(Record, &'static [u8]); 15] {
+    fn all() -> [(Record, &'static [u8]); 18] {
         let step = Record::Step;
         [
             (Record::Start { replicas: 8 }, &[32, 0, 1, 8]),
@@ -209,7 +262,10 @@ mod tests {
             (step(Step::Replace { switch: 65535 }), &[7, 0, 2, 255, 255]),
             (step(Step::Tell { replica: 3 }), &[8, 0, 1, 3]),
             (step(Step::Remove { replica: 4 }), &[9, 0, 1, 4]),
-            (step(Step::GiveUp { operation: 2 }), &[10, 0, 2, 0, 2]),
+            (give_up(2), &[10, 0, 4, 0, 0, 0, 2]),
+            (give_up(65_535), &[10, 0, 4, 0, 0, 255, 255]),
+            (give_up(0x0102_0304), &[10, 0, 4, 1, 2, 3, 4]),
+            (give_up(4_294_967_295), &[10, 0, 4, 255, 255, 255, 255]),
             (context_of(&[1023, 5]), &[11, 0, 4, 3, 255, 0, 5]),
             (
                 context_of(&[9, 8, 7, 6, 5, 4, 259, 65_535]),
@@ -220,6 +276,10 @@ mod tests {
             (step(Step::Join), &[12, 0, 0]),
             (step(Step::Copy), &[13, 0, 0]),
         ]
+    }
+
+    fn give_up(operation: u32) -> Record {
+        Record::Step(Step::GiveUp { operation })
     }
 
     fn context_of(objects: &[u16]) -> Record {
@@ -254,6 +314,7 @@ mod tests {
                 let mut file = vec![bytes[0], high, low];
                 file.resize(3 + length, 1);
                 let taken = match bytes[0] {
+                    10 => [2, 4].contains(&length),
                     11 => [4, 6, 8, 10, 12, 14, 16].contains(&length),
                     _ => file.len() == bytes.len(),
                 };
@@ -309,6 +370,85 @@ mod tests {
             assert_eq!(write(record, &mut []), Err(Refusal::BadRecord));
             assert_eq!(buffer, [77; 40]);
         }
+    }
+
+    /// "One written form and two readable ones": each operation that has two bytes
+    /// is read from both lengths, and written with length 4.
+    #[test]
+    fn every_give_up_of_two_bytes_has_two_readable_forms() {
+        for operation in 0..=u16::MAX {
+            let [a, b] = operation.to_be_bytes();
+            let (short, long) = ([10, 0, 2, a, b], [10, 0, 4, 0, 0, a, b]);
+            let record = give_up(u32::from(operation));
+            assert_eq!(read(&short), Some((record, 5)));
+            assert_eq!(read(&long), Some((record, 7)));
+            let mut buffer = [77; 8];
+            assert_eq!(write(record, &mut buffer), Ok(7));
+            assert_eq!(buffer, [&long[..], &[77]].concat()[..]);
+            assert_eq!(in_two_bytes(&long), short);
+            assert_eq!(in_four_bytes(&short), long);
+        }
+    }
+
+    /// A give-up needs its whole record, whichever length it was read from.
+    #[test]
+    fn a_give_up_does_not_fit_in_six_bytes() {
+        let (record, size) = read(&[10, 0, 2, 0, 1]).unwrap();
+        assert_eq!(size, 5);
+        let mut buffer = [77; 6];
+        assert_eq!(write(record, &mut buffer), Err(Refusal::BufferTooShort));
+        assert_eq!(buffer, [77; 6]);
+    }
+
+    /// "A reader moves on by the record's own length."
+    #[test]
+    fn what_follows_a_give_up_is_found() {
+        let file = [
+            &[10, 0, 2, 0, 9][..],
+            &[12, 0, 0],
+            &[10, 0, 4, 0, 0, 0, 8],
+            &[10, 0, 2, 0, 7],
+            &[10, 0, 2, 0, 6],
+            &[10, 0, 4, 1, 0, 0, 5],
+            &[13, 0, 0],
+        ]
+        .concat();
+        let (join, copy) = (Record::Step(Step::Join), Record::Step(Step::Copy));
+        let read: Result<Vec<Record>, Refusal> = Reader::new(&file).collect();
+        let numbers = [9, 8, 7, 6, 0x0100_0005].map(give_up);
+        let [a, b, c, d, e] = numbers;
+        assert_eq!(read, Ok(vec![a, join, b, c, d, e, copy]));
+    }
+
+    /// Two bytes where four are stated, and four where two are.
+    #[test]
+    fn the_stated_length_of_a_give_up_holds() {
+        assert_eq!(read(&[10, 0, 4, 0, 1]), None);
+        assert_eq!(
+            read(&[10, 0, 4, 0, 1, 12, 0, 0]),
+            Some((give_up(0x1_0c00), 7))
+        );
+        assert_eq!(read(&[10, 0, 2, 0, 0, 0, 1]), Some((give_up(0), 5)));
+        assert_eq!(read(&[10, 0, 3, 0, 0, 1]), None);
+        assert_eq!(read(&[10, 2, 0, 0, 1]), None);
+    }
+
+    /// Only sound give-ups change their length, and only those that fit two bytes
+    /// become short.
+    #[test]
+    fn the_length_of_a_file_s_give_ups_is_changed() {
+        let long = [
+            &[32, 0, 1, 2][..],
+            &[10, 0, 4, 0, 0, 1, 2],
+            &[10, 0, 4, 0, 1, 0, 0],
+            &[10, 0, 3, 0, 0, 1],
+            &[4, 0, 4, 0, 0, 0, 1],
+            &[10, 0, 4, 0, 0, 1],
+        ];
+        let mut short = long;
+        short[1] = &[10, 0, 2, 1, 2];
+        assert_eq!(in_two_bytes(&long.concat()), short.concat());
+        assert_eq!(in_four_bytes(&short.concat()), long.concat());
     }
 
     #[test]

@@ -1,5 +1,5 @@
 //! What the run program prints (document 01, section of that name; document
-//! 02, Req 01 and Req 02).
+//! 02, Req 01, Req 02 and Req 07).
 
 use crate::model::{Answer, Finished, Model, Refusal, Step};
 use crate::records::{Reader, Record};
@@ -26,18 +26,28 @@ pub fn walk(input: &[u8], show: impl FnMut(usize, Outcome)) {
 /// Runs an input with steps made in this way.
 fn walk_by(
     input: &[u8],
-    mut make: impl FnMut(&mut Model, Step) -> Answer,
+    make: impl FnMut(&mut Model, Step) -> Answer,
     mut show: impl FnMut(usize, Outcome),
 ) {
     if input.len() > INPUT_LONGEST {
         return show(0, Err(Refusal::InputTooLong));
     }
     let mut reader = Reader::new(input);
-    let mut model = match started(&mut reader) {
+    let model = match started(&mut reader) {
         Ok(model) => model,
         Err(refusal) => return show(1, Err(refusal)),
     };
     show(1, outcome(&model, Ok(None)));
+    walk_on(model, reader, make, show);
+}
+
+/// Runs the records that are left, from number 2 on.
+fn walk_on(
+    mut model: Model,
+    reader: Reader,
+    mut make: impl FnMut(&mut Model, Step) -> Answer,
+    mut show: impl FnMut(usize, Outcome),
+) {
     for (number, record) in (2..).zip(reader) {
         let Ok(Record::Step(step)) = record else {
             return show(number, Err(Refusal::BadRecord));
@@ -106,7 +116,7 @@ fn push_finished(out: &mut Vec<u8>, finished: Option<Finished>) {
         return out.extend_from_slice(b" - - -");
     };
     out.push(b' ');
-    push_number(out, usize::from(finished.operation));
+    push_number(out, finished.operation as usize);
     for (place, value) in finished.values.each().enumerate() {
         out.push(if place == 0 { b' ' } else { b',' });
         push_number(out, value as usize);
@@ -134,6 +144,7 @@ fn push_number(out: &mut Vec<u8>, number: usize) {
 #[cfg(test)]
 mod tests {
     use super::*;
+    use crate::model::{Age, Few, Way};
     use crate::words::file;
 
     fn text(input: &[u8]) -> String {
@@ -198,6 +209,75 @@ mod tests {
         let start = "1 ok 0 0 - - -\n2 no 19\n3 ok 0 0 - - -\n4 no 18\n";
         let lines = format!("{start}{}7 no 9\n{}24 no 19\n", plain(5..=6), plain(8..=23));
         assert_eq!(text(&input), lines);
+    }
+
+    /// What is printed for some records after a start with 4,294,967,294
+    /// operations given and as many stamps.
+    fn near_the_end(records: &str) -> String {
+        let model = Model::start_for_tests(1, 4_294_967_294, 4_294_967_294);
+        let records = file(records);
+        let mut out = Vec::new();
+        walk_on(model, Reader::new(&records), Model::step, |number, line| {
+            push_line(&mut out, number, line);
+        });
+        String::from_utf8(out).unwrap()
+    }
+
+    #[test]
+    fn the_last_operation_finishes_and_refusal_4_follows() {
+        let lines = near_the_end("write 5 9; read 5; 3 * deliver 0; write 5 9; read 5; read 5 6");
+        let expected = "2 ok 1 0 - - -\n3 no 4\n4 ok 1 1 - - -\n5 ok 2 1 - - -\n\
+                        6 ok 1 1 4294967295 9 -\n7 no 4\n8 no 4\n9 no 4\n";
+        assert_eq!(lines, expected);
+    }
+
+    #[test]
+    fn the_last_operation_is_given_up() {
+        let lines = near_the_end(
+            "read 5; read 5; give up 65535 in two bytes; give up 65535; give up 4294967294; \
+             give up 4294967295; give up 4294967295; read 5; 3 * deliver 0",
+        );
+        let expected = "2 ok 1 0 - - -\n3 no 4\n4 no 13\n5 no 13\n6 no 13\n7 ok 1 0 - - -\n\
+                        8 no 13\n9 no 4\n10 ok 1 0 - - -\n11 ok 1 0 - - -\n12 ok 0 0 - - -\n";
+        assert_eq!(lines, expected);
+    }
+
+    /// A file holds at most 21,845 records: a start and others of three bytes.
+    #[test]
+    fn the_longest_line() {
+        let mut out = Vec::new();
+        let finished = Finished {
+            operation: u32::MAX,
+            values: Few::new(&[u32::MAX; 8]),
+            age: Age::None,
+            way: Way::Tail,
+        };
+        let accepted = Accepted {
+            waiting: 64,
+            marks: 48,
+            finished: Some(finished),
+        };
+        push_line(&mut out, 21_845, Ok(accepted));
+        let values = ["4294967295"; 8].join(",");
+        let line = format!("21845 ok 64 48 4294967295 {values} -\n");
+        assert_eq!((out.len(), out), (116, line.into_bytes()));
+    }
+
+    /// Both lengths of a give-up, and a fault of length 3.
+    #[test]
+    fn a_give_up_of_each_length() {
+        let lines = "1 ok 0 0 - - -\n2 ok 1 0 - - -\n3 ok 2 0 - - -\n4 ok 2 0 - - -\n\
+                     5 ok 2 0 - - -\n6 no 13\n7 no 1\n";
+        let start = "start 1; read 5; read 6;";
+        let end = "bytes 10 0 3 0 0 2; read 5";
+        for give_ups in [
+            "give up 1; give up 2; give up 1",
+            "give up 1 in two bytes; give up 2; give up 1 in two bytes",
+            "give up 1; give up 2 in two bytes; give up 65537",
+        ] {
+            let input = file(&format!("{start} {give_ups}; {end}"));
+            assert_eq!(text(&input), lines, "{give_ups}");
+        }
     }
 
     #[test]

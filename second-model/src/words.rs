@@ -2,13 +2,14 @@
 //! `start 2; write 5 9; 2 * deliver 0`, for examples and for reports.
 
 use crate::model::Step;
-use crate::records::{append, read, Record};
+use crate::records::{append, append_in_two_bytes, given_up_in_two_bytes, read, Record};
 
 /// The record file that some words say. `N * step` and `N * (step; step)` are
 /// done N times, `each A to B by C (step; step)` is done for A, A + C and so on up
 /// to B, with the number for each `#`, `deliver P` has choice 0, `read` with
-/// several objects is a read of a context, `bytes B ...` are raw bytes, and
-/// `fill L` puts zeros up to length L.
+/// several objects is a read of a context, `give up N in two bytes` is the give-up
+/// with length 2, `bytes B ...` are raw bytes, and `fill L` puts zeros up to
+/// length L.
 ///
 /// Panics if the words make no sense: they are written in this program.
 pub fn file(words: &str) -> Vec<u8> {
@@ -58,9 +59,18 @@ fn add(phrase: &str, file: &mut Vec<u8>) {
         file.extend(bytes.split(' ').map(|b| number(b) as u8));
     } else if let Some(length) = phrase.strip_prefix("fill ") {
         file.resize(number(length) as usize, 0);
+    } else if let Some(operation) = of_two_bytes(phrase) {
+        append_in_two_bytes(operation, file);
     } else {
         append(record(phrase), file);
     }
+}
+
+/// The operation of `give up N in two bytes`.
+fn of_two_bytes(phrase: &str) -> Option<u16> {
+    let operation = phrase.strip_prefix("give up ")?;
+    let operation = number(operation.strip_suffix(" in two bytes")?);
+    Some(u16::try_from(operation).expect("an operation of two bytes"))
 }
 
 fn number(word: &str) -> u32 {
@@ -110,7 +120,7 @@ fn with_one_field(verb: &str, field: u32) -> Step {
         "replace" => Step::Replace { switch: pair },
         "tell" => Step::Tell { replica: byte },
         "remove" => Step::Remove { replica: byte },
-        "give-up" => Step::GiveUp { operation: pair },
+        "give-up" => Step::GiveUp { operation: field },
         _ => panic!("no step: {verb:?}"),
     }
 }
@@ -135,7 +145,10 @@ pub fn describe(piece: &[u8]) -> String {
         Step::Replace { switch } => format!("replace {switch}"),
         Step::Tell { replica } => format!("tell {replica}"),
         Step::Remove { replica } => format!("remove {replica}"),
-        Step::GiveUp { operation } => format!("give up {operation}"),
+        Step::GiveUp { operation } => match given_up_in_two_bytes(piece) {
+            Some(_) => format!("give up {operation} in two bytes"),
+            None => format!("give up {operation}"),
+        },
         Step::Context { objects } => {
             let objects: Vec<String> = objects.each().map(|o| o.to_string()).collect();
             format!("read {}", objects.join(" "))
@@ -154,9 +167,16 @@ mod tests {
     fn words_make_bytes() {
         let made = file("start 2; 2 * deliver 1 5; give up 258; bytes 7 255");
         let expected = [
-            32, 0, 1, 2, 3, 0, 3, 0, 1, 5, 3, 0, 3, 0, 1, 5, 10, 0, 2, 1, 2, 7, 255,
+            32, 0, 1, 2, 3, 0, 3, 0, 1, 5, 3, 0, 3, 0, 1, 5, 10, 0, 4, 0, 0, 1, 2, 7, 255,
         ];
         assert_eq!(made, expected);
+    }
+
+    #[test]
+    fn a_give_up_of_each_length() {
+        assert_eq!(file("give up 16909060"), [10, 0, 4, 1, 2, 3, 4]);
+        assert_eq!(file("give up 4294967295"), [10, 0, 4, 255, 255, 255, 255]);
+        assert_eq!(file("give up 258 in two bytes"), [10, 0, 2, 1, 2]);
     }
 
     #[test]
@@ -187,6 +207,7 @@ mod tests {
     fn describing_and_making_are_inverse() {
         let words = "start 3; read 1; write 2 3; deliver 4 5; lose 6; repeat 7; \
                      advance 8; replace 9; tell 10; remove 11; give up 12; read 14 13; \
+                     give up 12 in two bytes; give up 65536; give up 65535 in two bytes; \
                      read 22 21 20 19 18 17 16 15; join; copy; bytes 11 0 2 0 5; \
                      bytes 12 0 1 0; bytes 1 2";
         let made = file(words);

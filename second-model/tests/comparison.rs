@@ -4,7 +4,7 @@ use second_model::compare::printed;
 use second_model::examples::all;
 use second_model::generate::generate;
 use second_model::order::{find_order, history};
-use second_model::records::pieces;
+use second_model::records::{given_up_in_two_bytes, pieces};
 use second_model::run::output;
 use std::fs;
 use std::path::{Path, PathBuf};
@@ -23,7 +23,7 @@ fn text(output: &Output) -> String {
 #[test]
 fn no_difference_with_itself() {
     let own = env!("CARGO_BIN_EXE_second-run");
-    let run = compare(own, &["--files", "64", "--small", "40", "--seed", "5"]);
+    let run = compare(own, &["--files", "120", "--small", "40", "--seed", "5"]);
     let text = text(&run);
     assert_eq!(run.status.code(), Some(0), "{text}");
     assert!(text.starts_with("seed 5\n"));
@@ -39,6 +39,10 @@ fn no_difference_with_itself() {
         "no 17",
         "no 18",
         "no 19",
+        "give-up 2, ok",
+        "give-up 2, no 13",
+        "give-up 4, ok",
+        "give-up 4, no 13",
     ];
     for word in answers {
         let (_, after) = text.split_once(&format!("\n{word}  ")).unwrap();
@@ -46,7 +50,7 @@ fn no_difference_with_itself() {
         assert_ne!(times, "0", "{word}");
     }
     let last = text.lines().last().unwrap();
-    assert!(last.starts_with("compared 64 files, "), "{last}");
+    assert!(last.starts_with("compared 120 files, "), "{last}");
     assert!(last.contains(" 0 differences; orders found for 40 small runs"));
 }
 
@@ -153,7 +157,8 @@ fn a_wrong_join_is_seen_in_the_examples() {
     let program = Path::new(env!("CARGO_BIN_EXE_wrong-join-run"));
     let examples = all().into_iter();
     let seen = examples.filter(|e| output(&e.input) != printed(program, &e.input, &path).unwrap());
-    let seen: Vec<&str> = seen.map(|e| e.name).collect();
+    let seen: Vec<String> = seen.map(|e| e.name).collect();
+    let seen: Vec<&str> = seen.iter().map(String::as_str).collect();
     for name in [
         "write-to-a-copied-object-reaches-the-newcomer",
         "write-of-a-lone-replica-reaches-the-newcomer",
@@ -184,6 +189,41 @@ fn a_wrong_join_leaves_a_small_run_without_an_order() {
     }
     println!("{differ} of 400 small runs differ, {without} have no order");
     assert!(differ >= 20 && without >= 10, "{differ}, {without}");
+}
+
+/// A start, a give-up with length 2, and a record that the wrong program does not
+/// find: what it finds two bytes further on is a fault, another step or the end.
+#[test]
+fn a_wrong_length_is_found_and_the_file_shortened() {
+    let kept = difference(env!("CARGO_BIN_EXE_wrong-length-run"), "wrong-length");
+    let records = pieces(&kept.short);
+    assert!(records.len() >= 3);
+    let before = records[records.len() - 2];
+    assert!(before.starts_with(&[10, 0, 2]), "{before:?}");
+    assert_ne!(kept.ours.lines().last(), kept.theirs.lines().last());
+    let length = kept.short.len();
+    assert!((10..60).contains(&length), "{length} bytes");
+}
+
+/// The stored examples with length 2 in which more follows notice it, unless they
+/// end in a fault; those with length 4 do not.
+#[test]
+fn a_wrong_length_is_seen_in_the_examples() {
+    let path = PathBuf::from(env!("CARGO_TARGET_TMPDIR")).join("length.records");
+    let program = Path::new(env!("CARGO_BIN_EXE_wrong-length-run"));
+    let mut noticed = 0;
+    for example in all() {
+        let mut before_the_last = pieces(&example.input).into_iter().rev().skip(1);
+        let here = before_the_last.any(|piece| given_up_in_two_bytes(piece).is_some());
+        let ours = output(&example.input);
+        let differs = ours != printed(program, &example.input, &path).unwrap();
+        assert!(here || !differs, "{}", example.name);
+        let faulty = ours.ends_with(b" no 1\n");
+        assert!(differs || faulty || !here, "{}", example.name);
+        noticed += usize::from(differs);
+    }
+    println!("{noticed} examples notice the wrong length");
+    assert!(noticed >= 20, "{noticed}");
 }
 
 #[test]

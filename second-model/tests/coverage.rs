@@ -1,21 +1,24 @@
 //! The random files reach every rule of document 01 and each way it drops, reads
 //! of every age in many situations (document 02, Req 01), reads of contexts in as
-//! many (Req 02), and joins (Req 04).
+//! many (Req 02), joins (Req 04), and give-ups of both lengths (Req 07).
 
 #[path = "coverage/ages.rs"]
 mod ages;
 #[path = "coverage/contexts.rs"]
 mod contexts;
+#[path = "coverage/give_ups.rs"]
+mod give_ups;
 #[path = "coverage/joins.rs"]
 mod joins;
 
 use ages::Ages;
 use contexts::Contexts;
+use give_ups::{Fault, GiveUps};
 use joins::Joins;
 use second_model::compare::{file, Tally, Task};
 use second_model::generate::KINDS;
 use second_model::model::{Answer, Model, Packet, Refusal, Stamp, Step, FULL};
-use second_model::records::{Reader, Record};
+use second_model::records::{pieces, Reader, Record};
 use second_model::run::INPUT_LONGEST;
 use std::collections::BTreeMap;
 use std::path::PathBuf;
@@ -74,7 +77,7 @@ fn comparison() -> Task {
 }
 
 #[test]
-fn every_rule_every_age_every_context_and_every_join_is_reached() {
+fn every_rule_age_context_join_and_give_up_is_reached() {
     let task = comparison();
     let mut seen = Seen::new();
     for index in 0..task.files {
@@ -83,7 +86,7 @@ fn every_rule_every_age_every_context_and_every_join_is_reached() {
     let rules = WANTED.into_iter().map(|event| (event, LEAST));
     let mut seldom = String::new();
     let ages = ages::WANTED.into_iter().chain(contexts::WANTED);
-    let joins = joins::WANTED.into_iter();
+    let joins = joins::WANTED.into_iter().chain(give_ups::WANTED);
     for (event, least) in rules.chain([RARE]).chain(ages).chain(joins) {
         let times = seen.get(event).copied().unwrap_or(0);
         println!("{event:<56} {times:>9}");
@@ -164,6 +167,38 @@ fn every_fault_of_a_join_is_reached() {
     assert!(faults.keys().any(|(tag, _)| *tag == 14));
 }
 
+/// Wrong lengths of tag 10 end a run, some above 8 and some with another high byte;
+/// both right lengths are cut everywhere; and some faults follow a give-up with
+/// length 2.
+#[test]
+fn every_fault_of_a_give_up_is_reached() {
+    let task = comparison();
+    let mut faults: BTreeMap<Fault, usize> = BTreeMap::new();
+    let mut following = 0;
+    for index in (0..task.files).filter(|index| KINDS[index % KINDS.len()].0 == "give-ups") {
+        let file = file(&task, index).1;
+        let place = Reader::new(&file).position(|record| record.is_err());
+        let Some(place) = place.filter(|_| file.len() <= INPUT_LONGEST) else {
+            continue;
+        };
+        if let Some(fault) = give_ups::fault(&file, place) {
+            *faults.entry(fault).or_default() += 1;
+        }
+        let before = place.checked_sub(1).map(|before| pieces(&file)[before]);
+        following += usize::from(before.is_some_and(|piece| piece.starts_with(&[10, 0, 2])));
+    }
+    println!("{faults:?}, {following} after length 2");
+    for length in [0, 1, 3, 5, 6, 7, 8] {
+        assert!(faults.contains_key(&Fault::Length(length)), "{length}");
+    }
+    let long = |least| faults.range(Fault::Length(least)..Fault::Cut(0, 0)).count();
+    assert!(long(9) >= 3 && long(256) >= 2);
+    for cut in [(2, 0), (2, 1), (4, 0), (4, 1), (4, 2), (4, 3)] {
+        assert!(faults.contains_key(&Fault::Cut(cut.0, cut.1)), "{cut:?}");
+    }
+    assert!(faults.contains_key(&Fault::NoLength) && following >= 5);
+}
+
 /// What ends a run or refuses a context in one file, by places and lengths.
 #[derive(Default)]
 struct Faults {
@@ -242,7 +277,8 @@ fn watch(file: &[u8], seen: &mut Seen) {
     let mut ages = Ages::default();
     let mut contexts = Contexts::default();
     let mut joins = Joins::default();
-    for record in reader {
+    let mut give_ups = GiveUps::default();
+    for (record, piece) in reader.zip(pieces(file).into_iter().skip(1)) {
         let Ok(Record::Step(step)) = record else {
             return;
         };
@@ -260,10 +296,15 @@ fn watch(file: &[u8], seen: &mut Seen) {
         events.extend(early.into_iter().chain(late));
         events.extend(ages.after(&model, answer));
         events.extend(contexts.after(&model, step, answer));
+        events.extend(give_ups.after(&model, step, piece, answer));
         joins.after(&model, step, answer);
+        assert!(model.counter() <= model.begun(), "a counter runs ahead");
         for event in events {
             *seen.entry(event).or_default() += 1;
         }
+    }
+    if let Some(event) = give_ups.end() {
+        *seen.entry(event).or_default() += 1;
     }
 }
 

@@ -10,9 +10,9 @@ use raw::{Packet, Session, CHAIN, OPENS, PLACES, STORE, SWITCH};
 /// input, which has 21,845 records at the most.
 pub const SHORTEST_RECORD: usize = 3;
 pub const LONGEST_RECORD: usize = 19;
-pub const LONGEST_LINE: usize = 137;
+pub const LONGEST_LINE: usize = 147;
 pub const LONGEST_INPUT: usize = 65_536;
-pub const OUTPUT_ROOM: usize = 3_014_656;
+pub const OUTPUT_ROOM: usize = 3_276_800;
 /// The most objects that one read names.
 pub const LONGEST_CONTEXT: usize = 8;
 /// The most replicas that are live at a time.
@@ -202,7 +202,7 @@ impl Model {
     /// The line of the last step, as record `number`: how many bytes of `out`
     /// it takes, 0 where that is too short.
     #[inline]
-    pub fn line(&self, number: u32, out: &mut [u8]) -> usize {
+    pub fn line(&self, number: u64, out: &mut [u8]) -> usize {
         let s = &self.0.session;
         let (to, room) = (out.as_mut_ptr(), out.len());
         unsafe {
@@ -230,10 +230,10 @@ impl Model {
         unsafe { raw::woldladle_value(self.0.store.as_ptr(), replica, object) }
     }
 
-    /// Its stamp: the switch number times 65,536, and the counter; 0 where the value
-    /// is 0 for want of a replica, an object or a copy.
+    /// Its stamp: the switch number times 4,294,967,296, and the counter; 0 where the
+    /// value is 0 for want of a replica, an object or a copy.
     #[inline]
-    pub fn stamp(&self, replica: u8, object: u32) -> u32 {
+    pub fn stamp(&self, replica: u8, object: u32) -> u64 {
         unsafe { raw::woldladle_stamp(self.0.store.as_ptr(), replica, object) }
     }
 
@@ -260,20 +260,20 @@ impl Model {
             .iter()
             .chain(&self.0.store)
             .chain(&self.0.opens);
-        let packets = self.0.packets.iter().flat_map(|p| &p.own);
+        let packets = self.0.packets.iter().flat_map(|p| p.own);
         let mut bytes: Vec<u8> = numbers
-            .chain(packets)
             .chain([&self.0.session.marks])
             .flat_map(|n| n.to_le_bytes())
             .collect();
+        bytes.extend(packets.flat_map(|n| n.to_le_bytes()));
         bytes.extend(self.0.session.waiting.to_le_bytes());
         bytes
     }
 }
 
 /// Writes the record of a tag with its numbers, 0 for one that it does not
-/// have (tags 12 and 13 have none), at the start of `out`: how many bytes it has,
-/// or refusal 1 where no such record exists (tag 11 has `write_context`), or 15. A
+/// have (tags 12 and 13 have none, and tag 10 takes any operation and is written
+/// with length 4), at the start of `out`: how many bytes it has, or refusal 1 where no such record exists (tag 11 has `write_context`), or 15. A
 /// refusal leaves `out` as it was.
 #[inline]
 pub fn write_record(tag: u8, first: u32, second: u32, out: &mut [u8]) -> Result<usize, u8> {
@@ -425,7 +425,6 @@ mod tests {
             (model.marks(), matches!(answer, Answer::Refused(_)))
         };
         const READ: [u8; 5] = [1, 0, 2, 0, 5];
-        const WRITE: [u8; 9] = [2, 0, 6, 0, 5, 0, 0, 0, 9];
         const REPLACE: [u8; 5] = [7, 0, 2, 0, 2];
         assert_eq!(marks_after(Some(7), &READ), (7, false));
         for _ in 0..3 {
@@ -461,6 +460,100 @@ mod tests {
     fn the_shortest_record_has_three_bytes() {
         let lengths = (0..=255).map(record_length).filter(|length| *length > 0);
         assert_eq!(lengths.min(), Some(SHORTEST_RECORD));
+    }
+
+    /// Where numbers lie in what is lent, for tests only: the switch's counter, the
+    /// last operation given, and the stamps of replica 1, two numbers for each object.
+    const COUNTER: usize = 1;
+    const LAST_GIVEN: usize = 65;
+    const STAMPS_OF_1: usize = 8553 + 2 * 1024;
+
+    /// A lone replica with all operations but one given, and all counters used but
+    /// one.
+    fn near_the_end() -> Model {
+        let mut model = Model::start(1).expect("one");
+        model.0.opens[LAST_GIVEN] = u32::MAX - 1;
+        model.0.switch[COUNTER] = u32::MAX - 1;
+        model
+    }
+
+    const WRITE: [u8; 9] = [2, 0, 6, 0, 5, 0, 0, 0, 9];
+
+    #[test]
+    fn the_last_operation_and_the_last_counter() {
+        let mut model = near_the_end();
+        for record in [&WRITE[..], &DELIVER, &DELIVER] {
+            assert_eq!(model.step(record), Answer::Done);
+        }
+        let mut out = [0; LONGEST_LINE];
+        assert!(matches!(model.step(&DELIVER), Answer::Finished { .. }));
+        let size = model.line(5, &mut out);
+        assert_eq!(out[..size], *b"5 ok 1 1 4294967295 9 -\n");
+        assert_eq!(model.stamp(1, 5), (1 << 32) + u64::from(u32::MAX));
+        assert_eq!(model.step(&DELIVER), Answer::Done);
+        for begin in [&WRITE[..], &BEGIN_A_READ, &[11, 0, 4, 0, 5, 0, 6]] {
+            let before = model.bytes();
+            assert_eq!(model.step(begin), Answer::Refused(4));
+            assert!(model.bytes() == before);
+        }
+    }
+
+    /// With 64 operations open, 64 packets waiting and no operation number left, 4
+    /// comes after 1, 3 and 16 and before 5 and 6.
+    #[test]
+    fn refusal_4_has_its_place_in_the_order() {
+        let mut model = Model::start(2).expect("two");
+        (0..64).for_each(|_| assert_eq!(model.step(&BEGIN_A_READ), Answer::Done));
+        for (last, refusal) in [(u32::MAX - 1, 5), (u32::MAX, 4)] {
+            model.0.opens[LAST_GIVEN] = last;
+            for (record, refusal) in [
+                (&[11, 0, 2, 4, 0][..], 1),    // one object, and that is 1,024
+                (&[11, 0, 4, 4, 0, 4, 0], 3),  // named twice
+                (&[11, 0, 4, 0, 5, 0, 5], 16), // .. and an object that there is
+                (&[11, 0, 4, 0, 5, 0, 6], refusal),
+                (&[1, 0, 2, 4, 0], 3),
+                (&BEGIN_A_READ, refusal),
+                (&WRITE, refusal),
+            ] {
+                assert_eq!(model.step(record), Answer::Refused(refusal), "{record:?}");
+            }
+        }
+    }
+
+    #[test]
+    fn the_last_operation_is_given_up_with_length_4() {
+        let mut model = near_the_end();
+        assert_eq!(model.step(&BEGIN_A_READ), Answer::Done);
+        assert_eq!(model.step(&BEGIN_A_READ), Answer::Refused(4));
+        let give_up_65535 = [10, 0, 2, 255, 255];
+        assert_eq!(model.step(&give_up_65535), Answer::Refused(13));
+        let mut record = [0; LONGEST_RECORD];
+        let size = write_record(10, u32::MAX, 0, &mut record).expect("a record");
+        assert_eq!(record[..size], [10, 0, 4, 255, 255, 255, 255]);
+        assert_eq!(model.step(&record[..size]), Answer::Done);
+        assert_eq!(model.step(&record[..size]), Answer::Refused(13));
+    }
+
+    /// With the counter at its end, which no run reaches, a write is dropped, and
+    /// counter and marks stay.
+    #[test]
+    fn no_counter_is_left() {
+        let mut model = near_the_end();
+        model.0.switch[COUNTER] = u32::MAX;
+        assert_eq!(model.step(&WRITE), Answer::Done);
+        assert_eq!(model.step(&DELIVER), Answer::Done);
+        assert_eq!((model.waiting(), model.marks()), (0, 0));
+        assert_eq!(model.0.switch[COUNTER], u32::MAX);
+    }
+
+    /// Whatever the store holds, all that stands above the counter is the switch
+    /// number.
+    #[test]
+    fn a_stamp_is_not_cut() {
+        let mut model = Model::start(1).expect("one");
+        model.0.store[STAMPS_OF_1 + 2 * 5] = u32::MAX;
+        model.0.store[STAMPS_OF_1 + 2 * 5 + 1] = 7;
+        assert_eq!(model.stamp(1, 5), (u64::from(u32::MAX) << 32) + 7);
     }
 
     /// The line of record 5, with 2 packets and 1 mark, from these fields.
@@ -501,6 +594,20 @@ mod tests {
     }
 
     #[test]
+    fn a_record_s_number_has_up_to_20_digits() {
+        let model = Model::start(1).expect("one");
+        let powers = (0..20).map(|k| 10u64.pow(k));
+        let near = powers.flat_map(|p| [p - 1, p, p + 1]);
+        let widths = [u64::from(u32::MAX), u64::from(u32::MAX) + 1, u64::MAX];
+        for number in near.chain(widths) {
+            let mut out = [0; LONGEST_LINE];
+            let size = model.line(number, &mut out);
+            let line = format!("{number} ok 0 0 - - -\n");
+            assert_eq!(out[..size], *line.as_bytes());
+        }
+    }
+
+    #[test]
     fn the_longest_line_has_room() {
         let mut model = Model::start(1).expect("one");
         model.0.session = Session {
@@ -513,12 +620,12 @@ mod tests {
             waiting: usize::MAX,
         };
         let eight = ["4294967295"; 8].join(",");
-        let line = format!("4294967295 ok 64 4294967295 4294967295 {eight} -\n");
+        let line = format!("18446744073709551615 ok 64 4294967295 4294967295 {eight} -\n");
         assert!(line.len() <= LONGEST_LINE);
         let mut out = vec![0xaa; line.len() + 1];
-        assert_eq!(model.line(u32::MAX, &mut out[..line.len() - 1]), 0);
+        assert_eq!(model.line(u64::MAX, &mut out[..line.len() - 1]), 0);
         assert!(out.iter().all(|b| *b == 0xaa));
-        assert_eq!(model.line(u32::MAX, &mut out), line.len());
+        assert_eq!(model.line(u64::MAX, &mut out), line.len());
         assert_eq!(out, [line.as_bytes(), &[0xaa]].concat());
     }
 }

@@ -1,7 +1,7 @@
 //! The libraries' functions and structs, as bindings/c/woldladle.h declares them.
 
-pub const SWITCH: usize = 101;
-pub const STORE: usize = 16_675;
+pub const SWITCH: usize = 150;
+pub const STORE: usize = 24_939;
 pub const OPENS: usize = 642;
 pub const PLACES: usize = 64;
 pub const CHAIN: usize = 10;
@@ -22,7 +22,7 @@ pub struct Session {
 #[repr(C)]
 #[derive(Clone, Copy, Default)]
 pub struct Packet {
-    pub own: [u32; 6],
+    pub own: [u64; 3],
 }
 
 extern "C" {
@@ -44,7 +44,7 @@ extern "C" {
         length: usize,
     );
     pub fn woldladle_line(
-        number: u32,
+        number: u64,
         refusal: u8,
         operation: u32,
         count: u32,
@@ -70,7 +70,7 @@ extern "C" {
     ) -> u8;
     pub fn woldladle_record_length(tag: u8) -> u16;
     pub fn woldladle_value(store: *const u32, replica: u8, object: u32) -> u32;
-    pub fn woldladle_stamp(store: *const u32, replica: u8, object: u32) -> u32;
+    pub fn woldladle_stamp(store: *const u32, replica: u8, object: u32) -> u64;
     pub fn woldladle_chain(store: *const u32, out: *mut u8) -> u8;
     pub fn woldladle_run(input: *const u8, length: usize, out: *mut u8, room: usize) -> usize;
 }

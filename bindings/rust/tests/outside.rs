@@ -189,7 +189,7 @@ fn deliver(model: &mut Model, position: u32) -> Answer {
 }
 
 /// The line of the last step.
-fn line(model: &Model, number: u32) -> String {
+fn line(model: &Model, number: u64) -> String {
     let mut line = [0; LONGEST_LINE];
     let size = model.line(number, &mut line);
     String::from_utf8_lossy(&line[..size]).into_owned()
@@ -202,6 +202,11 @@ fn refused(model: &mut Model, record: &[u8], refusal: u8) {
     assert_eq!(answer, Answer::Refused(refusal), "{record:?}");
     assert!(model.bytes() == before, "{record:?}");
     assert_eq!(line(model, 7), format!("7 no {refusal}\n"));
+}
+
+/// A stamp in one number.
+fn stamp(switch: u16, counter: u32) -> u64 {
+    u64::from(switch) << 32 | u64::from(counter)
 }
 
 /// Everything that `run` gives for a file.
@@ -257,9 +262,9 @@ fn a_read_says_whether_it_overtook_the_pending_write() {
 }
 
 #[test]
-fn operations_and_counters_are_used_up_together() {
+fn operations_go_on_past_65_535() {
     let mut model = Model::start(1).expect("one");
-    for operation in 1..=65_535 {
+    for operation in 1..=65_600 {
         assert_eq!(
             step(&mut model, 2, operation % 1024, operation),
             Answer::Done
@@ -269,10 +274,28 @@ fn operations_and_counters_are_used_up_together() {
         let finished = finished(operation, operation, Freshness::None);
         assert_eq!(step(&mut model, 3, 0, 0), finished);
         assert_eq!(step(&mut model, 3, 0, 0), Answer::Done);
+        let stamp = stamp(1, operation);
+        assert_eq!(model.stamp(1, operation % 1024), stamp);
     }
-    assert_eq!(model.stamp(1, 65_535 % 1024), 65_536 + 65_535);
-    assert_eq!(step(&mut model, 1, 5, 0), Answer::Refused(4));
-    assert_eq!(step(&mut model, 1, 1024, 0), Answer::Refused(3));
+    assert_eq!(step(&mut model, 1, 5, 0), Answer::Done);
+    refused(&mut model, &[10, 0, 2, 0, 65], 13); // 65,601 mod 65,536
+    refused(&mut model, &[10, 0, 3, 1, 0, 65], 1);
+    assert_eq!(step(&mut model, 10, 65_601, 0), Answer::Done);
+}
+
+#[test]
+fn a_give_up_of_either_length_is_taken() {
+    for record in [&[10, 0, 2, 0, 1][..], &[10, 0, 4, 0, 0, 0, 1]] {
+        let mut model = Model::start(2).expect("two");
+        done(&mut model, &[(1, 5, 0)]);
+        assert_eq!(model.step(record), Answer::Done);
+        refused(&mut model, record, 13);
+    }
+    assert_eq!(record_length(10), 7);
+    let mut record = [0xaa; 8];
+    assert_eq!(write_record(10, 258, 0, &mut record[..6]), Err(15));
+    assert_eq!(write_record(10, 258, 0, &mut record), Ok(7));
+    assert_eq!(record, [10, 0, 4, 0, 0, 1, 2, 0xaa]);
 }
 
 #[test]
@@ -324,7 +347,10 @@ fn what_is_not_there_is_0() {
     for (tag, first, second) in [(2, 1023, 9), (3, 0, 0), (3, 0, 0)] {
         assert_eq!(step(&mut model, tag, first, second), Answer::Done);
     }
-    assert_eq!((model.value(1, 1023), model.stamp(1, 1023)), (9, 65_537));
+    assert_eq!(
+        (model.value(1, 1023), model.stamp(1, 1023)),
+        (9, stamp(1, 1))
+    );
     for (replica, object) in [
         (0, 1023),
         (9, 1023),

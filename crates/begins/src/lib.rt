@@ -1,6 +1,7 @@
 // The steps that begin an operation: of one object, and of a whole context.
 ghost use mathlib.Core.Path.{_≡_};
 ghost use Prim.Native.Nat.{_+_, _<_};
+ghost use Rattle.limits.specs.{lastOperation};
 ghost use Rattle.operations.specs.{lastGiven, opening};
 ghost use Rattle.contexts.specs.{holding};
 ghost use Rattle.protocol.specs.declared.Message.the-variants.{ContextRead};
@@ -61,7 +62,7 @@ pub fn begin(
 
 // The operation of a read of a whole context begins, and its objects go into a free row.
 fn enter(opens: &mut [u32; operations::CELLS], row: u32, v: Context) -> Decision
-    requires { ⌜ lastGiven (now opens) < 65535 ⌝ }
+    requires { ⌜ lastGiven (now opens) < lastOperation ⌝ }
     ensures { λ d. ⌜ (d ≡ deciding (addOne (packetOf (ContextRead (lastGiven (now (opens .entry)) + 1) row))))
         × (now (opens .exit) ≡ holding (opening (now (opens .entry)) (lastGiven (now (opens .entry)) + 1)) row v) ⌝ }
 {

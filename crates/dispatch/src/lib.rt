@@ -5,7 +5,6 @@ ghost use mathlib.Core.Path.{_≡_};
 ghost use Rattle.protocol.specs.Steps.{isMalformed, decided, decidedIn};
 ghost use Rattle.waiting.specs.Waiting.{heldIn};
 use limits::Object;
-use limits::Operation;
 use limits::WAITING;
 use protocol::Decision;
 use protocol::Refusal;
@@ -43,7 +42,7 @@ fn decide_step(
         Step::Replace(number) => steps::replace(&mut *switch, number),
         Step::Tell(r) => steps::tell(switch, &mut *store, r),
         Step::Remove(r) => steps::remove(&mut *store, r),
-        Step::GiveUp(o) => steps::give_up(&mut *opens, o as Operation),
+        Step::GiveUp(o) => steps::give_up(&mut *opens, o),
         Step::BeginContext(x) => begins::begin_context(&mut *opens, held, x),
         Step::Join => steps::join(&mut *store),
         Step::Copy => steps::copy_on(&mut *store),

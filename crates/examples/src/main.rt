@@ -6,10 +6,10 @@ ghost use lib.ListN.{length};
 use libc::STDOUT_FILENO;
 
 // Room for the lines of any input: `printed-short`, crates/runs/proofs/Whole.antt.
-fn output_room() -> [u8; 3014656]
-    ensures { λ r. ⌜ 3014656 ≡ length r ⌝ }
+fn output_room() -> [u8; 3276800]
+    ensures { λ r. ⌜ 3276800 ≡ length r ⌝ }
 {
-    [0; 3014656]
+    [0; 3276800]
 }
 
 fn say(name: &[u8]) {

@@ -47,20 +47,24 @@ contexts = 64
 abbrev pub input : ℕ
 input = 65536
 
--- operations are numbered 1 to 65,535
+-- Req 07: operations are numbered 1 to 4,294,967,295
 abbrev pub lastOperation : ℕ
-lastOperation = 65535
+lastOperation = 4294967295
 
 -- switch numbers have 16 bits
 abbrev pub switchNumbers : ℕ
 switchNumbers = 65536
 
--- counters have 16 bits
+-- Req 07: counters have 32 bits
 abbrev pub lastCounter : ℕ
-lastCounter = 65535
+lastCounter = 4294967295
 
 abbrev pub counters : ℕ
-counters = 65536
+counters = 4294967296
+
+-- the width of a record's number
+abbrev pub lastRecordNumber : ℕ
+lastRecordNumber = 18446744073709551615
 
 -- the width of a place in the log: no run reaches its end
 abbrev pub lastPosition : ℕ

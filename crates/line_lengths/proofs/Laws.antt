@@ -1,4 +1,4 @@
--- Laws of every line that is printed: it ends in the byte 10 and has no other, and it has at most 137 bytes.
+-- Laws of every line that is printed: it ends in the byte 10 and has no other, and it has at most 147 bytes.
 use mathlib.Core.Path.{_≡_, refl, _∙_}
 use mathlib.Core.Logic.{_≢_}
 use mathlib.Core.Bool.{Bool, true, false, cond}
@@ -14,12 +14,12 @@ use Rattle.protocol.specs.declared.Answer.{Answer}
 use Rattle.protocol.specs.declared.Answer.the-variants.{Done, Finished, FinishedContext, Refused}
 use Rattle.protocol.specs.declared.Refusal.the-variants.{NotOpen}
 use Rattle.protocol.specs.Answers.{refusalNumber, noFreshness, oldRead, newRead}
-use Rattle.line_lengths.specs.Lines.{digits, places, decimal, okStart, freshnessEnd, finishEnd, laterValue, joined, contextEnd, noLine, lineOf}
-use Rattle.line_lengths.proofs.Numbers.{decimal-places, decimal-length}
+use Rattle.line_lengths.specs.Lines.{digits, places, decimal, longPlaces, longDecimal, okStart, freshnessEnd, finishEnd, laterValue, joined, contextEnd, noLine, lineOf}
+use Rattle.line_lengths.proofs.Numbers.{decimal-places, decimal-length, long-decimal-places, long-length}
 
 -- no line has more bytes
 abbrev pub longest : ℕ
-longest = 137
+longest = 147
 
 -- there is a byte 10, and the first one is the last byte
 abbrev pub isLine : List ℕ → Bool
@@ -75,6 +75,10 @@ number-line : (n : ℕ) (l : List ℕ) → isLine (decimal n ++ l) ≡ isLine l
 unfolding decimal
 number-line n l = digits-line (places n) n l
 
+long-line : (n : ℕ) (l : List ℕ) → isLine (longDecimal n ++ l) ≡ isLine l
+unfolding longDecimal
+long-line n l = digits-line (longPlaces n) n l
+
 freshness-line : (f : ℕ) → isLine (freshnessEnd f) ≡ true
 freshness-line f = by-word f (λ l. isLine l ≡ true) refl refl refl
 
@@ -87,17 +91,17 @@ joined-line v l = simp (append-assoc, number-line, later-line)
 
 pub refusal-line : (k refusal : ℕ) → isLine (noLine k refusal) ≡ true
 unfolding noLine
-refusal-line k r = simp (append-assoc, number-line)
+refusal-line k r = simp (append-assoc, number-line, long-line)
 
 pub answer-line : (k : ℕ) (a : Answer) (waiting marks : ℕ) → isLine (lineOf k a waiting marks) ≡ true
 unfolding lineOf
-answer-line k Done w m = simp (append-assoc, number-line, freshness-line)
-answer-line k (Finished o v f) w m = simp (append-assoc, number-line, freshness-line)
-answer-line k (FinishedContext o v) w m = simp (append-assoc, number-line, joined-line, freshness-line)
+answer-line k Done w m = simp (append-assoc, number-line, long-line, freshness-line)
+answer-line k (Finished o v f) w m = simp (append-assoc, number-line, long-line, freshness-line)
+answer-line k (FinishedContext o v) w m = simp (append-assoc, number-line, long-line, joined-line, freshness-line)
 answer-line k (Refused r) w m = refusal-line k (refusalNumber r)
 
 -- how long each part is, by its numbers
-pub ok-parts : (k w m : ℕ) → length (okStart k w m) ≡ length (decimal k) + 4 + length (decimal w) + 1 + length (decimal m) + 1
+pub ok-parts : (k w m : ℕ) → length (okStart k w m) ≡ length (longDecimal k) + 4 + length (decimal w) + 1 + length (decimal m) + 1
 ok-parts k w m = simp length-append (omega arith)
 
 pub finish-parts : (o v f : ℕ) → length (finishEnd o v f) ≡ length (decimal o) + 1 + length (decimal v) + 1 + length (freshnessEnd f)
@@ -113,7 +117,7 @@ joined-parts v = simp length-append
 pub context-parts : (o : ℕ) (v : Context) → length (contextEnd o v) ≡ length (decimal o) + 1 + length (joined v) + 1 + length (freshnessEnd noFreshness)
 context-parts o v = simp length-append (omega arith)
 
-pub no-parts : (k r : ℕ) → length (noLine k r) ≡ length (decimal k) + 4 + length (decimal r) + 1
+pub no-parts : (k r : ℕ) → length (noLine k r) ≡ length (longDecimal k) + 4 + length (decimal r) + 1
 unfolding noLine
 no-parts k r = simp length-append (omega arith)
 
@@ -122,8 +126,8 @@ pub none-length : length (freshnessEnd noFreshness) ≡ 2
 unfolding freshnessEnd
 none-length = refl
 
-pub ok-length : (k w m : ℕ) → length (okStart k w m) ≡ places k + places w + places m + 6
-ok-length k w m = simp length-append (omega (arith, decimal-places k, decimal-places w, decimal-places m))
+pub ok-length : (k w m : ℕ) → length (okStart k w m) ≡ longPlaces k + places w + places m + 6
+ok-length k w m = simp length-append (omega (arith, long-decimal-places k, decimal-places w, decimal-places m))
 
 pub finish-length : (o v f : ℕ) → length (finishEnd o v f) ≡ places o + places v + 2 + length (freshnessEnd f)
 finish-length o v f = simp length-append (omega (arith, decimal-places o, decimal-places v))
@@ -131,9 +135,9 @@ finish-length o v f = simp length-append (omega (arith, decimal-places o, decima
 pub context-length : (o : ℕ) (v : Context) → length (contextEnd o v) ≡ places o + length (joined v) + 4
 context-length o v = omega (arith, context-parts o v, decimal-places o, none-length)
 
-pub no-length : (k r : ℕ) → length (noLine k r) ≡ places k + places r + 5
+pub no-length : (k r : ℕ) → length (noLine k r) ≡ longPlaces k + places r + 5
 unfolding noLine
-no-length k r = simp length-append (omega (arith, decimal-places k, decimal-places r))
+no-length k r = simp length-append (omega (arith, long-decimal-places k, decimal-places r))
 
 pub done-length : (k w m : ℕ) → length (lineOf k Done w m) ≡ length (okStart k w m) + 6
 unfolding lineOf freshnessEnd
@@ -171,14 +175,14 @@ joined-length v =
 
 pub refusal-length : (k refusal : ℕ) → length (noLine k refusal) ≤ longest
 unfolding noLine
-refusal-length k r = simp length-append (omega (arith, decimal-length k, decimal-length r))
+refusal-length k r = simp length-append (omega (arith, long-length k, decimal-length r))
 
 pub answer-length : (k : ℕ) (a : Answer) (waiting marks : ℕ) → length (lineOf k a waiting marks) ≤ longest
 unfolding lineOf
 answer-length k Done w m =
-    simp length-append (omega (arith, decimal-length k, decimal-length w, decimal-length m, freshness-length noFreshness))
+    simp length-append (omega (arith, long-length k, decimal-length w, decimal-length m, freshness-length noFreshness))
 answer-length k (Finished o v f) w m =
-    simp length-append (omega (arith, decimal-length k, decimal-length w, decimal-length m, decimal-length o, decimal-length v, freshness-length f))
+    simp length-append (omega (arith, long-length k, decimal-length w, decimal-length m, decimal-length o, decimal-length v, freshness-length f))
 answer-length k (FinishedContext o v) w m =
     omega (
       arith,
@@ -186,7 +190,7 @@ answer-length k (FinishedContext o v) w m =
       ok-parts k w m,
       context-length o v,
       decimal-places o,
-      decimal-length k,
+      long-length k,
       decimal-length w,
       decimal-length m,
       decimal-length o,
@@ -196,27 +200,27 @@ answer-length k (Refused r) w m = refusal-length k (refusalNumber r)
 
 -- lines 1, 11 and 12 of document 01's listing, with Req 01's field; and the end of the line of a read that carried a stamp
 pub listing-1 : lineOf 1 Done 0 0 ≡ 49 ∷ 32 ∷ 111 ∷ 107 ∷ 32 ∷ 48 ∷ 32 ∷ 48 ∷ 32 ∷ 45 ∷ 32 ∷ 45 ∷ 32 ∷ 45 ∷ 10 ∷ []
-unfolding lineOf freshnessEnd decimal places digits
+unfolding lineOf freshnessEnd longDecimal longPlaces decimal places digits
 listing-1 = refl
 
 pub listing-11 : lineOf 11 (Finished 2 9 noFreshness) 0 0 ≡ 49 ∷ 49 ∷ 32 ∷ 111 ∷ 107 ∷ 32 ∷ 48 ∷ 32 ∷ 48 ∷ 32 ∷ 50 ∷ 32 ∷ 57 ∷ 32 ∷ 45 ∷ 10 ∷ []
-unfolding lineOf freshnessEnd decimal places digits
+unfolding lineOf freshnessEnd longDecimal longPlaces decimal places digits
 listing-11 = refl
 
 pub listing-12 : lineOf 12 (Refused NotOpen) 0 0 ≡ 49 ∷ 50 ∷ 32 ∷ 110 ∷ 111 ∷ 32 ∷ 49 ∷ 51 ∷ 10 ∷ []
-unfolding lineOf noLine decimal places digits
+unfolding lineOf noLine longDecimal longPlaces decimal places digits
 listing-12 = refl
 
 pub old-end : finishEnd 2 9 oldRead ≡ 50 ∷ 32 ∷ 57 ∷ 32 ∷ 111 ∷ 108 ∷ 100 ∷ 10 ∷ []
-unfolding freshnessEnd decimal places digits
+unfolding freshnessEnd longDecimal longPlaces decimal places digits
 old-end = refl
 
 pub new-end : finishEnd 2 9 newRead ≡ 50 ∷ 32 ∷ 57 ∷ 32 ∷ 110 ∷ 101 ∷ 119 ∷ 10 ∷ []
-unfolding freshnessEnd decimal places digits
+unfolding freshnessEnd longDecimal longPlaces decimal places digits
 new-end = refl
 
 -- Req 02: the line of a read of three objects
 pub context-line : lineOf 12 (FinishedContext 2 (context 3 9 0 7 0 0 0 0 0)) 1 0 ≡
     49 ∷ 50 ∷ 32 ∷ 111 ∷ 107 ∷ 32 ∷ 49 ∷ 32 ∷ 48 ∷ 32 ∷ 50 ∷ 32 ∷ 57 ∷ 44 ∷ 48 ∷ 44 ∷ 55 ∷ 32 ∷ 45 ∷ 10 ∷ []
-unfolding lineOf joined laterValue freshnessEnd decimal places digits
+unfolding lineOf joined laterValue freshnessEnd longDecimal longPlaces decimal places digits
 context-line = refl

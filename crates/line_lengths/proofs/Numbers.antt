@@ -1,5 +1,5 @@
 -- Laws of `decimal`: the digits spell the number, with no needless 0 before them.
-use mathlib.Core.Path.{_≡_, refl, _∙_}
+use mathlib.Core.Path.{_≡_, refl, sym, ap, _∙_, subst}
 use mathlib.Core.Bool.{Bool, true, false, cond}
 use mathlib.Core.List.{List, [], _∷_, _++_}
 use Prim.Native.Nat.{ℕ, zero, suc, _+_, _-_, _*_, _/_, _%_, _^_, _≤_, _<_, min, max}
@@ -7,8 +7,9 @@ use native.Mathlib.Nat.{pow-suc}
 use native.Mathlib.Omega.{arith}
 use lib.Dec.{ltb}
 use lib.ListN.{length, getD, length-append, List·getD-append}
-use borrow.Author.Tests.{ltb-true, ltb-false, lt-ltb}
-use Rattle.line_lengths.specs.Lines.{digits, places, decimal}
+use borrow.Author.Tests.{ltb-true, ltb-false, lt-ltb, le-ltb}
+use lib.Pow.{pow-add}
+use Rattle.line_lengths.specs.Lines.{digits, places, decimal, longPlaces, longDecimal}
 
 -- the number that digits spell, v standing before them
 abbrev pub valueFrom : ℕ → List ℕ → ℕ
@@ -42,7 +43,7 @@ places-sized n =
     (λ q. by-test n 100000000 _ _ (λ p. omega arith)
     (λ q. by-test n 1000000000 _ _ (λ p. omega arith) (λ q. omega arith)))))))))
 
-digits-length : (k n : ℕ) → length (digits k n) ≡ k
+pub digits-length : (k n : ℕ) → length (digits k n) ≡ k
 unfolding digits
 digits-length zero n = refl
 digits-length (suc k) n = simp (length-append, digits-length k (n / 10)) (omega arith)
@@ -91,3 +92,81 @@ decimal-first n h p =
     let s : Sized n (places n) = places-sized n in
     let e : places n ≡ suc (places n - 1) = omega arith in
     rw e (first-digit (places n - 1) n (omega arith) (rw⁻¹ e (omega arith)))
+
+-- ---- Req 07: numbers of 64 bits
+
+-- a number below 10,000,000,000 is printed as one of 32 bits is ..
+pub long-short : (n : ℕ) → n < 10000000000 → longPlaces n ≡ places n
+unfolding longPlaces
+long-short n h = rw (lt-ltb n 10000000000 h)
+
+-- .. and another one has ten digits more than its upper part
+pub long-parts : (n : ℕ) → 10000000000 ≤ n → longPlaces n ≡ 10 + places (n / 10000000000)
+unfolding longPlaces
+long-parts n h = rw (le-ltb n 10000000000 h)
+
+pub places-ten : (n : ℕ) → 1000000000 ≤ n → places n ≡ 10
+unfolding places
+places-ten n h =
+    simp (
+      le-ltb n 10 (omega arith),
+      le-ltb n 100 (omega arith),
+      le-ltb n 1000 (omega arith),
+      le-ltb n 10000 (omega arith),
+      le-ltb n 100000 (omega arith),
+      le-ltb n 1000000 (omega arith),
+      le-ltb n 10000000 (omega arith),
+      le-ltb n 100000000 (omega arith),
+      le-ltb n 1000000000 h,
+    )
+
+pub long-decimal-places : (n : ℕ) → length (longDecimal n) ≡ longPlaces n
+unfolding longDecimal
+long-decimal-places n = digits-length (longPlaces n) n
+
+pub long-one : (n : ℕ) → n < 10 → longDecimal n ≡ (48 + n) ∷ []
+unfolding longDecimal decimal
+long-one n h = ap (λ (k : ℕ). digits k n) (long-short n (omega arith)) ∙ decimal-one n h
+
+-- n has k digits, of a number of 64 bits
+abbrev LongSized : ℕ → ℕ → Type 0
+LongSized n k = (1 ≤ k) × (k ≤ 20) × (n < 10 ^ k) × (10 ^ (k - 1) ≤ max n 1)
+
+long-sized : (n : ℕ) → n < 100000000000000000000 → LongSized n (longPlaces n)
+long-sized n h = go (ltb n 10000000000) refl
+  where
+    short : n < 10000000000 → LongSized n (places n)
+    short below = let s : Sized n (places n) = places-sized n in (s .0, omega arith, omega arith, s .3)
+
+    long : 10000000000 ≤ n → LongSized n (10 + places (n / 10000000000))
+    long above =
+        let m : ℕ = n / 10000000000 in
+        let j : ℕ = places m in
+        let s : Sized m j = places-sized m in
+        let most : 10 ^ (10 + j) ≡ 10000000000 * 10 ^ j = pow-add 10 10 j in
+        let least : 10 ^ (10 + (j - 1)) ≡ 10000000000 * 10 ^ (j - 1) = pow-add 10 10 (j - 1) in
+        let less : 10 + j - 1 ≡ 10 + (j - 1) = omega arith in
+        (omega arith, omega arith, rw most (omega arith), rw (less, least) (omega arith))
+
+    go : (t : Bool) → ltb n 10000000000 ≡ t → LongSized n (longPlaces n)
+    go true e = let below = ltb-true n 10000000000 e in subst (LongSized n) (sym (long-short n below)) (short below)
+    go false e = let above = ltb-false n 10000000000 e in subst (LongSized n) (sym (long-parts n above)) (long above)
+
+pub long-length : (n : ℕ) → length (longDecimal n) ≤ 20
+long-length n = go (ltb n 10000000000) refl
+  where
+    go : (t : Bool) → ltb n 10000000000 ≡ t → length (longDecimal n) ≤ 20
+    go true e = omega (arith, long-decimal-places n, long-short n (ltb-true n 10000000000 e), places-sized n)
+    go false e = omega (arith, long-decimal-places n, long-parts n (ltb-false n 10000000000 e), places-sized (n / 10000000000))
+
+-- the digits spell the number, and only 0 itself begins with the digit 0
+pub long-value : (n : ℕ) → n < 100000000000000000000 → valueOf (longDecimal n) ≡ n
+unfolding longDecimal
+long-value n h = digits-value (longPlaces n) n (long-sized n h .2)
+
+pub long-first : (n : ℕ) → n < 100000000000000000000 → 0 < n → 48 < getD (longDecimal n) 0 0
+unfolding longDecimal
+long-first n h p =
+    let s : LongSized n (longPlaces n) = long-sized n h in
+    let e : longPlaces n ≡ suc (longPlaces n - 1) = omega arith in
+    rw e (first-digit (longPlaces n - 1) n (omega arith) (rw⁻¹ e (omega arith)))

@@ -26,9 +26,16 @@ places n =
 unfoldable pub decimal : ℕ → List ℕ
 decimal n = digits (places n) n
 
+-- Req 07: a soak has more steps than 32 bits can count, so the number of a record has 64
+unfoldable pub longPlaces : ℕ → ℕ
+longPlaces n = cond (ltb n 10000000000) (places n) (10 + places (n / 10000000000))
+
+unfoldable pub longDecimal : ℕ → List ℕ
+longDecimal n = digits (longPlaces n) n
+
 -- 'record number from 1, then `ok`, packets waiting, counting marks, and operation and value just finished, or `- -`'
 abbrev pub okStart : ℕ → ℕ → ℕ → List ℕ
-okStart k waiting marks = decimal k ++ (32 ∷ 111 ∷ 107 ∷ 32 ∷ []) ++ decimal waiting ++ (32 ∷ []) ++ decimal marks ++ (32 ∷ [])
+okStart k waiting marks = longDecimal k ++ (32 ∷ 111 ∷ 107 ∷ 32 ∷ []) ++ decimal waiting ++ (32 ∷ []) ++ decimal marks ++ (32 ∷ [])
 
 -- Req 01: 'ends with a new field: `old` ..., else `new`. Every other `ok` line has `-` there', and the line's end
 unfoldable pub freshnessEnd : ℕ → List ℕ
@@ -57,7 +64,7 @@ noFinish = 45 ∷ 32 ∷ 45 ∷ 32 ∷ []
 
 -- 'A refusal is number, `no`, refusal.'
 unfoldable pub noLine : ℕ → ℕ → List ℕ
-noLine k refusal = decimal k ++ (32 ∷ 110 ∷ 111 ∷ 32 ∷ []) ++ decimal refusal ++ (10 ∷ [])
+noLine k refusal = longDecimal k ++ (32 ∷ 110 ∷ 111 ∷ 32 ∷ []) ++ decimal refusal ++ (10 ∷ [])
 
 -- the line of record k, from its answer and from what the machine then holds
 unfoldable pub lineOf : ℕ → Answer → ℕ → ℕ → List ℕ

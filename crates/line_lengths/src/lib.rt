@@ -2,15 +2,16 @@
 ghost use mathlib.Core.Path.{_≡_};
 ghost use Prim.Native.Nat.{_≤_};
 ghost use lib.ListN.{length};
-ghost use Rattle.line_lengths.specs.Lines.{places, laterValue, joined, okStart, finishEnd, contextEnd, noLine, lineOf};
+ghost use Rattle.line_lengths.specs.Lines.{places, longPlaces, laterValue, joined, okStart, finishEnd, contextEnd, noLine, lineOf};
 use contexts::Context;
 use limits::Freshness;
+use limits::RecordNumber;
 use protocol::Answer;
 use protocol::answers;
 use protocol::answers::NEW;
 use protocol::answers::OLD;
 
-// How many decimal digits a number has.
+// How many decimal digits a number of 32 bits has.
 pub fn digits_of(n: u32) -> usize
     ensures { λ r. ⌜ (r ≡ places n) × (r ≤ 10) ⌝ }
 {
@@ -44,16 +45,29 @@ pub fn digits_of(n: u32) -> usize
     10
 }
 
-pub fn ok_length(number: u32, waiting: u32, marks: u32) -> usize
-    ensures { λ r. ⌜ (r ≡ length (okStart number waiting marks)) × (r ≤ 36) ⌝ }
+// Req 07: how many the number of a record has.
+pub fn long_digits_of(n: RecordNumber) -> usize
+    ensures { λ r. ⌜ (r ≡ longPlaces n) × (r ≤ 20) ⌝ }
 {
-    digits_of(number) + digits_of(waiting) + digits_of(marks) + 6
+    if n < 4294967296 {
+        return digits_of(n as u32);
+    }
+    if n < 10000000000 {
+        return 10;
+    }
+    10 + digits_of((n / 10000000000) as u32)
 }
 
-pub fn no_length(number: u32, refusal: u8) -> usize
+pub fn ok_length(number: RecordNumber, waiting: u32, marks: u32) -> usize
+    ensures { λ r. ⌜ (r ≡ length (okStart number waiting marks)) × (r ≤ 46) ⌝ }
+{
+    long_digits_of(number) + digits_of(waiting) + digits_of(marks) + 6
+}
+
+pub fn no_length(number: RecordNumber, refusal: u8) -> usize
     ensures { λ r. ⌜ r ≡ length (noLine number refusal) ⌝ }
 {
-    digits_of(number) + digits_of(refusal as u32) + 5
+    long_digits_of(number) + digits_of(refusal as u32) + 5
 }
 
 pub fn finish_length(operation: u32, value: u32, freshness: Freshness) -> usize
@@ -97,7 +111,7 @@ pub fn context_length(read: u32, v: Context) -> usize
     digits_of(read) + joined_length(v) + 4
 }
 
-pub fn line_length(number: u32, answer: Answer, waiting: u32, marks: u32) -> usize
+pub fn line_length(number: RecordNumber, answer: Answer, waiting: u32, marks: u32) -> usize
     ensures { λ r. ⌜ r ≡ length (lineOf number answer waiting marks) ⌝ }
 {
     match answer {

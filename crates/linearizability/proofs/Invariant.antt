@@ -6,6 +6,7 @@ use mathlib.Core.Logic.{inl, inr}
 use Prim.Native.Nat.{ℕ, suc, _+_, _-_, _≤_, _<_}
 use native.Mathlib.Nat.{sub-self}
 use native.Mathlib.Omega.{arith}
+use Rattle.limits.specs as limits
 use Rattle.history.specs.History.{_∈_, Kind, reads, writes, History, begun, finished, Begun}
 use Rattle.history.proofs.Lists.{in-insert, cases-append, only-member}
 use Rattle.history.proofs.Entries.{Entry, New, Unfinished}
@@ -74,7 +75,7 @@ pub record Books (opens : List ℕ) (h : History) : Type 0 where
   -- an open operation was begun, and has not finished
   pub opened : (o : ℕ) → isOpen opens o ≡ true → Begun h o × Unfinished h o
   pub numbered : lastGiven opens ≡ begunCount h
-  pub few : lastGiven opens ≤ 65535
+  pub few : lastGiven opens ≤ limits.lastOperation
   pub bounded : (o : ℕ) → Begun h o → UpTo (begunCount h) o
   pub ranged : (o : ℕ) (k : Kind) → begun o k ∈ h → InRange k
   pub ends-once : EndsOnce h

@@ -1,30 +1,37 @@
 -- What a run cannot reach: the waiting list, the links, the open operations, the operation numbers, the counter and the log's positions keep their limits. And the stored number of
 -- counting marks is the count over the slots.
-use mathlib.Core.Path.{_≡_}
+use mathlib.Core.Path.{_≡_, ap, _∙_}
 use mathlib.Core.Bool.{true}
 use mathlib.Core.List.{List, [], _∷_}
 use Prim.Native.Nat.{ℕ, _+_, _≤_, _<_}
 use native.Mathlib.Omega.{arith}
-use lib.ListN.{length}
+use lib.ListN.{length, length-append}
+use Rattle.limits.specs as limits
 use Rattle.history.specs.History.{_∈_, History}
 use Rattle.history.proofs.Entries.{Entry}
 use Rattle.switch.specs.Numbers.{counterIn, marksIn}
 use Rattle.switch.specs.DirtySet.{countedMarks}
 use Rattle.operations.specs.{openCells, openCount, lastGiven}
 use Rattle.operations.proofs.Laws as operations
-use Rattle.store.specs.{appliedBy}
-use Rattle.chain.specs.{isLive}
+use Rattle.stamp.specs.Stamps.{isAbove}
+use Rattle.stamp.proofs.Laws.{above-true}
+use Rattle.store.specs.declared.Write.{Write}
+use Rattle.store.specs.{highestOf, appliedBy}
+use Rattle.chain.specs.{headOf, isLive, isMember, tableOf}
 use Rattle.replicas.specs.Replicas.{linkedWrites}
 use Rattle.waiting.specs.declared.Packet.{Packet}
 use Rattle.waiting.specs.Waiting.{held}
 use Rattle.waiting.proofs.Laws as waiting
-use Rattle.protocol.specs.declared.Message.the-variants.{UnstampedWrite}
+use Rattle.protocol.specs.declared.Message.the-variants.{UnstampedWrite, StampedWrite}
 use Rattle.protocol.specs.declared.Step.{Step}
 use Rattle.protocol.specs.Steps.{Machine, after, steppedBy, started}
-use Rattle.log.proofs.Shows.{applied-between, linked-is}
+use Rattle.log.proofs.Log.{top}
+use Rattle.log.proofs.Shows.{applied-between, head-highest, linked-is}
+use Rattle.log.proofs.Tables.{at-head-first}
 use Rattle.linearizability.specs.Run.{historyFrom, historyOf}
 use Rattle.linearizability.proofs.Packets.{unstamped, unstamped-in}
 use Rattle.linearizability.proofs.Bounds.{log-bounded}
+use Rattle.linearizability.proofs.Visible.{visible-accept}
 use Rattle.linearizability.proofs.Waits.{messages}
 use Rattle.linearizability.proofs.Invariant.{Good}
 use Rattle.linearizability.proofs.OneOrder.{orderFrom, good-start, good-after}
@@ -68,8 +75,8 @@ module _ (n : ℕ) (low : 1 ≤ n) (high : n ≤ 8) (row : List Packet) (xs : Li
   pub open-cells : length (machineOf n row xs .opens) ≡ openCells
   open-cells = good-run .books .cells
 
-  -- 'Operations are numbered from 1 to 65,535'
-  pub operations-within : lastGiven (machineOf n row xs .opens) ≤ 65535
+  -- Req 07: operations are numbered from 1 to 4,294,967,295
+  pub operations-within : lastGiven (machineOf n row xs .opens) ≤ limits.lastOperation
   operations-within = good-run .books .few
 
   -- the counter and the unstamped writes that wait are at most as many as the operations
@@ -77,7 +84,7 @@ module _ (n : ℕ) (low : 1 ≤ n) (high : n ≤ 8) (row : List Packet) (xs : Li
   counter-within = good-run .counted
 
   -- so while an unstamped write waits, the counter is not at its last number: no run comes to the rule for that
-  pub counter-never-out : (o x v : ℕ) → UnstampedWrite o x v ∈ messages (machineOf n row xs .waiting) → counterIn (machineOf n row xs .switch) < 65535
+  pub counter-never-out : (o x v : ℕ) → UnstampedWrite o x v ∈ messages (machineOf n row xs .waiting) → counterIn (machineOf n row xs .switch) < limits.lastCounter
   counter-never-out o x v i = omega (arith, operations-within, counter-within, unstamped-in (messages (machineOf n row xs .waiting)) i)
 
   -- Req 03: the stored number 'must equal the count over the slots after every step of a run'
@@ -88,7 +95,27 @@ module _ (n : ℕ) (low : 1 ≤ n) (high : n ≤ 8) (row : List Packet) (xs : Li
   pub marks-handed-back : (x : Step) → steppedBy (machineOf n row xs) x .marks ≡ countedMarks (after (machineOf n row xs) x .switch)
   marks-handed-back x = good-after good-run x .switch-holds .stored
 
-  -- a live replica has applied no more writes than there are operations: the test of the log's last position turns no write down in a run
-  pub positions-within : (r : ℕ) → isLive (machineOf n row xs .store) r ≡ true → appliedBy (machineOf n row xs .store) r ≤ 65535
+  -- a live replica has applied no more writes than there are operations ..
+  pub positions-within : (r : ℕ) → isLive (machineOf n row xs .store) r ≡ true → appliedBy (machineOf n row xs .store) r ≤ lastGiven (machineOf n row xs .opens)
   positions-within r live =
-      omega (arith, operations-within, applied-between (good-run .shown) r live .1, log-bounded (good-run .core .visible) (good-run .books .bounded), good-run .books .numbered)
+      omega (arith, applied-between (good-run .shown) r live .1, log-bounded (good-run .core .visible) (good-run .books .bounded), good-run .books .numbered)
+
+  -- .. and before it takes a write, fewer than that: the test of the log's last position turns no write down in a run
+  pub position-never-out : (r : ℕ) (w : Write) → StampedWrite r w ∈ messages (machineOf n row xs .waiting) → isMember (machineOf n row xs .store) r ≡ true
+      → isAbove (w .stamp) (highestOf (machineOf n row xs .store) (tableOf (machineOf n row xs .store) r)) ≡ true
+      → appliedBy (machineOf n row xs .store) (tableOf (machineOf n row xs .store) r) < limits.lastPosition
+  position-never-out r w i member above =
+      let g = good-run in
+      let s = machineOf n row xs .store in
+      let first : tableOf s r ≡ headOf s = at-head-first s r (g .posted (StampedWrite r w) i) member in
+      let highest : highestOf s (tableOf s r) ≡ top 0 (g .log) = ap (highestOf s) first ∙ head-highest (g .shown) in
+      let later = visible-accept (g .core .visible) w (g .core .packets .fine (StampedWrite r w) i) (omega (arith, highest, above-true (w .stamp) (highestOf s (tableOf s r)) above)) in
+      omega (
+        arith,
+        operations-within,
+        g .books .numbered,
+        log-bounded later (g .books .bounded),
+        length-append (g .log) (w ∷ []),
+        ap (appliedBy s) first,
+        g .shown .head-has,
+      )

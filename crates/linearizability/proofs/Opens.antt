@@ -382,8 +382,8 @@ module _ (n : ℕ) (low : 1 ≤ n) (high : n ≤ 8) (row : List Packet) (xs : Li
   pub open-exactly : (o : ℕ) → (isOpen (machineOf n row xs .opens) o ≡ true) ↔ (o ∈ openOf n row xs)
   open-exactly o = (same-run .listed o, same-run .kept o)
 
-  -- 'at most 64 are open': with 64 lent places, a begin that neither 1, 3 and 16 (its objects) nor 4 (65,535 operations) refuses is refused with 5 exactly when 64 are open
-  pub full-exactly : 64 ≤ length row → begunCount (historyOf n row xs) < 65535 → {step : Step} → Begins step
+  -- 'at most 64 are open': with 64 lent places, a begin that neither 1, 3 and 16 (its objects) nor 4 (the last operation is given) refuses is refused with 5 exactly when 64 are open
+  pub full-exactly : 64 ≤ length row → begunCount (historyOf n row xs) < limits.lastOperation → {step : Step} → Begins step
       → (answerTo (machineOf n row xs) step ≡ Refused OpenFull) ↔ (length (openOf n row xs) ≡ 64)
   unfolding answerTo started noneWait
   full-exactly wide left {step} b =

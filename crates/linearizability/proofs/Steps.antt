@@ -84,7 +84,7 @@ pub next-is : {m : Machine} {h : History} {es : List Entry} (g : Good m h es) �
 next-is {m} g = add-one (lastGiven (m .opens)) ∙ ap suc (g .books .numbered)
 
 books-begin : {m : Machine} {h : History} {es : List Entry} (g : Good m h es) (k : Kind) → InRange k → roomToOpen (m .opens) ≡ true
-    → lastGiven (m .opens) < 65535 → Books (opening (m .opens) (lastGiven (m .opens) + 1)) (begun (suc (begunCount h)) k ∷ h)
+    → lastGiven (m .opens) < limits.lastOperation → Books (opening (m .opens) (lastGiven (m .opens) + 1)) (begun (suc (begunCount h)) k ∷ h)
 books-begin {m} {h} g k fits room left =
     let b = g .books in
     let next = lastGiven (m .opens) + 1 in
@@ -141,15 +141,15 @@ module _ {m : Machine} {h : History} {es : List Entry} (g : Good m h es) (wide :
   good-begin =
       by-test P (leb 1024 x) _ _
       (λ e. good-refused step ObjectNumber g)
-      (λ e. by-test P (leb 65535 (lastGiven (m .opens))) _ _
+      (λ e. by-test P (leb limits.lastOperation (lastGiven (m .opens))) _ _
       (λ last. good-refused step OperationsUsedUp g)
       (λ last. by-test P (roomToOpen (m .opens)) _ _
       (λ room. by-test P (overfull (held (m .waiting)) 0 1) _ _
       (λ full. good-refused step WaitingFull g)
-      (λ roomy. begins (leb-false 1024 x e) (leb-false 65535 (lastGiven (m .opens)) last) room roomy))
+      (λ roomy. begins (leb-false 1024 x e) (leb-false limits.lastOperation (lastGiven (m .opens)) last) room roomy))
       (λ room. good-refused step OpenFull g)))
     where
-      begins : x < 1024 → lastGiven (m .opens) < 65535 → roomToOpen (m .opens) ≡ true → overfull (held (m .waiting)) 0 1 ≡ false
+      begins : x < 1024 → lastGiven (m .opens) < limits.lastOperation → roomToOpen (m .opens) ≡ true → overfull (held (m .waiting)) 0 1 ≡ false
           → P (opened (deciding (addOne (packetOf (asking isWrite (lastGiven (m .opens) + 1) x v)))) (opening (m .opens) (lastGiven (m .opens) + 1)))
       begins small left room roomy =
           let next = lastGiven (m .opens) + 1 in
@@ -201,7 +201,7 @@ module _ {m : Machine} {h : History} {es : List Entry} (g : Good m h es) (wide :
       (λ q i r s n e d. taken free q i r n (ap (λ (k : ℕ). k % limits.contexts) e ∙ sym d))
       (λ r e. subst (λ (k : ℕ). isCount (sizeAt cells k) ≡ true) e (ap isCount (size-held (opening (m .opens) number) row (contextOf x) sized) ∙ naming-count x named))
 
-  good-context-begins : areObjects (contextOf x) ≡ true → lastGiven (m .opens) < 65535 → roomToOpen (m .opens) ≡ true → overfull (held (m .waiting)) 0 1 ≡ false → row < 64
+  good-context-begins : areObjects (contextOf x) ≡ true → lastGiven (m .opens) < limits.lastOperation → roomToOpen (m .opens) ≡ true → overfull (held (m .waiting)) 0 1 ≡ false → row < 64
       → Begins (opened (deciding (addOne (packetOf (ContextRead number row)))) cells)
   good-context-begins small left room roomy free =
       rw (order-stays m (machine (m .switch) (m .store) cells (edited (m .waiting) (addOne (packetOf (ContextRead number row))))) es refl)
@@ -224,13 +224,13 @@ module _ {m : Machine} {h : History} {es : List Entry} (g : Good m h es) (wide :
   good-begin-context =
       by-test Begins (areObjects (contextOf x)) _ _
       (λ small. both Begins (areDifferent (contextOf x))
-      (by-test Begins (leb 65535 (lastGiven (m .opens))) _ _
+      (by-test Begins (leb limits.lastOperation (lastGiven (m .opens))) _ _
       (λ last. good-refused (BeginContext x) OperationsUsedUp g)
       (λ last. by-test Begins (roomToOpen (m .opens)) _ _
       (λ room. by-test Begins (overfull (held (m .waiting)) 0 1) _ _
       (λ full. good-refused (BeginContext x) WaitingFull g)
       (λ roomy. by-test Begins (ltb row 64) _ _
-      (λ free. good-context-begins small (leb-false 65535 (lastGiven (m .opens)) last) room roomy (ltb-true row 64 free))
+      (λ free. good-context-begins small (leb-false limits.lastOperation (lastGiven (m .opens)) last) room roomy (ltb-true row 64 free))
       (λ none. good-refused (BeginContext x) WaitingFull g)))
       (λ room. good-refused (BeginContext x) OpenFull g)))
       (good-refused (BeginContext x) SameObject g))

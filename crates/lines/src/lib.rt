@@ -5,10 +5,11 @@ ghost use Prim.Native.Nat.{_+_, _≤_};
 ghost use lib.ListN.{length};
 ghost use lib.Dec.{leb};
 ghost use Rattle.protocol.specs.declared.Answer.the-variants.{Done, Finished, FinishedContext};
-ghost use Rattle.line_lengths.specs.Lines.{decimal, okStart, freshnessEnd, finishEnd, laterValue, joined, contextEnd, noLine, lineOf};
+ghost use Rattle.line_lengths.specs.Lines.{digits, decimal, longDecimal, okStart, freshnessEnd, finishEnd, laterValue, joined, contextEnd, noLine, lineOf};
 ghost use Rattle.lines.specs.Text.{putIn, Puts};
 use contexts::Context;
 use limits::Freshness;
+use limits::RecordNumber;
 use protocol::Answer;
 use protocol::answers;
 use protocol::answers::NEW;
@@ -16,7 +17,7 @@ use protocol::answers::NONE;
 use protocol::answers::OLD;
 
 // No line has more bytes.
-pub const LONGEST: usize = 137;
+pub const LONGEST: usize = 147;
 
 // ---- parts of a line, at a place that has room for them; each function gives the place after what it puts
 
@@ -48,12 +49,11 @@ fn put_four(out: &mut [u8], at: usize, a: u8, b: u8, c: u8, d: u8) -> usize
     at + 4
 }
 
-// The digits are filled in from the last to the first.
-fn put_digits(out: &mut [u8], at: usize, n: u32) -> usize
-    requires { ⌜ at + length (decimal n) ≤ length (now out) ⌝ }
-    ensures { λ r. ⌜ Puts (now (out .entry)) at (decimal n) r (now (out .exit)) ⌝ }
+// The last k digits of a number, filled in from the last to the first.
+fn put_digits(out: &mut [u8], at: usize, n: u64, k: usize) -> usize
+    requires { ⌜ (at + k ≤ length (now out)) × (k ≤ 20) ⌝ }
+    ensures { λ r. ⌜ Puts (now (out .entry)) at (digits k n) r (now (out .exit)) ⌝ }
 {
-    let k = line_lengths::digits_of(n);
     let mut rest = n;
     let mut left = k;
     while 0 < left {
@@ -72,15 +72,23 @@ fn put_number(out: &mut [u8], at: usize, n: u32) -> usize
     if n < 10 {
         return put_byte(&mut *out, at, 48 + n as u8);
     }
-    put_digits(&mut *out, at, n)
+    put_digits(&mut *out, at, n as u64, line_lengths::digits_of(n))
+}
+
+// Req 07: the number of a record.
+fn put_record_number(out: &mut [u8], at: usize, n: RecordNumber) -> usize
+    requires { ⌜ at + length (longDecimal n) ≤ length (now out) ⌝ }
+    ensures { λ r. ⌜ Puts (now (out .entry)) at (longDecimal n) r (now (out .exit)) ⌝ }
+{
+    put_digits(&mut *out, at, n, line_lengths::long_digits_of(n))
 }
 
 // A line up to the operation just finished: record number, `ok`, packets waiting and counting marks.
-fn put_ok(out: &mut [u8], at: usize, number: u32, waiting: u32, marks: u32) -> usize
+fn put_ok(out: &mut [u8], at: usize, number: RecordNumber, waiting: u32, marks: u32) -> usize
     requires { ⌜ at + length (okStart number waiting marks) ≤ length (now out) ⌝ }
     ensures { λ r. ⌜ Puts (now (out .entry)) at (okStart number waiting marks) r (now (out .exit)) ⌝ }
 {
-    let at = put_number(&mut *out, at, number);
+    let at = put_record_number(&mut *out, at, number);
     let at = put_four(&mut *out, at, 32, 111, 107, 32);
     let at = put_number(&mut *out, at, waiting);
     let at = put_byte(&mut *out, at, 32);
@@ -89,11 +97,11 @@ fn put_ok(out: &mut [u8], at: usize, number: u32, waiting: u32, marks: u32) -> u
 }
 
 // The line of a refused record: its number, `no` and the refusal.
-fn put_no(out: &mut [u8], at: usize, number: u32, refusal: u8) -> usize
+fn put_no(out: &mut [u8], at: usize, number: RecordNumber, refusal: u8) -> usize
     requires { ⌜ at + length (noLine number refusal) ≤ length (now out) ⌝ }
     ensures { λ r. ⌜ Puts (now (out .entry)) at (noLine number refusal) r (now (out .exit)) ⌝ }
 {
-    let at = put_number(&mut *out, at, number);
+    let at = put_record_number(&mut *out, at, number);
     let at = put_four(&mut *out, at, 32, 110, 111, 32);
     let at = put_number(&mut *out, at, refusal as u32);
     put_byte(&mut *out, at, 10)
@@ -166,7 +174,7 @@ fn put_context(out: &mut [u8], at: usize, read: u32, v: Context) -> usize
 
 // ---- whole lines
 
-fn put_done(out: &mut [u8], at: usize, number: u32, waiting: u32, marks: u32) -> usize
+fn put_done(out: &mut [u8], at: usize, number: RecordNumber, waiting: u32, marks: u32) -> usize
     requires { ⌜ at + length (lineOf number Done waiting marks) ≤ length (now out) ⌝ }
     ensures { λ r. ⌜ Puts (now (out .entry)) at (lineOf number Done waiting marks) r (now (out .exit)) ⌝ }
 {
@@ -178,7 +186,7 @@ fn put_done(out: &mut [u8], at: usize, number: u32, waiting: u32, marks: u32) ->
 fn put_finished(
     out: &mut [u8],
     at: usize,
-    number: u32,
+    number: RecordNumber,
     operation: u32,
     value: u32,
     freshness: Freshness,
@@ -195,7 +203,7 @@ fn put_finished(
 fn put_finished_context(
     out: &mut [u8],
     at: usize,
-    number: u32,
+    number: RecordNumber,
     read: u32,
     v: Context,
     waiting: u32,
@@ -212,7 +220,7 @@ fn put_finished_context(
 fn put_line(
     out: &mut [u8],
     at: usize,
-    number: u32,
+    number: RecordNumber,
     answer: Answer,
     waiting: u32,
     marks: u32,
@@ -253,7 +261,7 @@ pub fn fits(length: usize, at: usize, n: usize) -> bool
 pub fn put_answer(
     out: &mut [u8],
     at: usize,
-    number: u32,
+    number: RecordNumber,
     answer: Answer,
     waiting: u32,
     marks: u32,
@@ -272,7 +280,7 @@ pub fn put_answer(
 }
 
 // The line of a refused record at a place, in the same way.
-pub fn put_refusal(out: &mut [u8], at: usize, number: u32, refusal: u8) -> usize
+pub fn put_refusal(out: &mut [u8], at: usize, number: RecordNumber, refusal: u8) -> usize
     ensures { λ r. ⌜ (r ≡ length (noLine number refusal)) × (now (out .exit) ≡ putIn (now (out .entry)) at (noLine number refusal)) ⌝ }
 {
     let n = line_lengths::no_length(number, refusal);

@@ -8,10 +8,10 @@ use lib.Seq.{getD-set-other}
 use Rattle.lists.specs.{listOf}
 use Rattle.lists.proofs.Places.{listOf-same}
 use Rattle.store.specs.declared.Write.{Write}
-use Rattle.store.specs.{lastNumberCell, joinCell, entryCell, valueCell, stampCell, liveCount, orderAt, members, rowOf, highestOf, permittedBy, appliedBy, entryAt, valueAt, stampAt}
+use Rattle.store.specs.{appliedCell, permitCell, highestCell, lastNumberCell, joinCell, valueCell, stampCell, liveCount, orderAt, members, rowOf, highestOf, permittedBy, appliedBy, entryAt, valueAt, stampAt}
 use Rattle.chain.specs.{headOf, tailOf}
 use Rattle.chain.proofs.Members.{count-most, live-in}
-use Rattle.replicas.proofs.Cells.{SizedStore, row-below, value-from, value-below, stamp-is, entry-from, entry-below, entry-same}
+use Rattle.replicas.proofs.Cells.{SizedStore, row-below, value-from, value-below, stamp-is, stamp-over, entries-kept}
 use Rattle.replicas.proofs.Descending.{descending-same}
 use Rattle.log.proofs.Holds.{holds-as}
 use Rattle.log.proofs.Shows.{ShowsTo, shows-same}
@@ -36,15 +36,15 @@ module _ {s t : List ℕ} (e : SameReplicas s t) where
 
   highest-kept : (r : ℕ) → highestOf t r ≡ highestOf s r
   unfolding highestOf
-  highest-kept r = e .cells (9 + rowOf r) (omega arith) (omega (arith, row-below r))
+  highest-kept r = stamp-over t s (highestCell (rowOf r)) (λ j a b. e .cells j (omega (arith, a)) (omega (arith, b, row-below r)))
 
   pub permitted-kept : (r : ℕ) → permittedBy t r ≡ permittedBy s r
   unfolding permittedBy
-  permitted-kept r = e .cells (17 + rowOf r) (omega arith) (omega (arith, row-below r))
+  permitted-kept r = e .cells (permitCell (rowOf r)) (omega arith) (omega (arith, row-below r))
 
   pub applied-kept : (r : ℕ) → appliedBy t r ≡ appliedBy s r
   unfolding appliedBy
-  applied-kept r = e .cells (25 + rowOf r) (omega arith) (omega (arith, row-below r))
+  applied-kept r = e .cells (appliedCell (rowOf r)) (omega arith) (omega (arith, row-below r))
 
   pub value-kept : (r o : ℕ) → valueAt t r o ≡ valueAt s r o
   unfolding valueAt
@@ -52,10 +52,10 @@ module _ {s t : List ℕ} (e : SameReplicas s t) where
 
   pub stamp-kept : (r o : ℕ) → stampAt t r o ≡ stampAt s r o
   unfolding stampAt
-  stamp-kept r o = e .cells (stampCell (rowOf r) o) (omega (arith, stamp-is r o)) (omega (arith, stamp-is r o, value-below r o))
+  stamp-kept r o = stamp-over t s (stampCell (rowOf r) o) (λ j a b. e .cells j (omega (arith, a, stamp-is r o)) (omega (arith, b, stamp-is r o, value-below r o)))
 
   pub entry-kept : (p : ℕ) → entryAt t p ≡ entryAt s p
-  entry-kept p = entry-same t s p (λ f h. e .cells (entryCell f p) (omega (arith, entry-from f p)) (omega (arith, entry-below f p h)))
+  entry-kept p = entries-kept t s p (λ j a b. e .cells j (omega (arith, a)) (omega (arith, b)))
 
   pub shows-kept : {log : List Write} {m n : ℕ} → ShowsTo s log m n → ShowsTo t log m n
   shows-kept {log} {m} {n} k =

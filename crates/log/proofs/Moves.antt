@@ -23,7 +23,7 @@ use Rattle.replicas.proofs.Moves as moves
 use Rattle.replicas.proofs.Descending.{Descending, pending-short, descending-logged, descending-removed}
 use Rattle.log.proofs.Log.{top, Rising, rising-append}
 use Rattle.log.proofs.Holds.{Small, noWrite, holds-as}
-use Rattle.log.proofs.Shows.{ShowsTo, Shows, head-in, tail-in, head-live, tail-live, head-place, applied-falls, applied-between, linked-is}
+use Rattle.log.proofs.Shows.{ShowsTo, Shows, head-in, tail-in, head-live, tail-live, head-place, applied-falls, applied-between, linked-is, head-highest}
 use Rattle.log.proofs.Shows.{CanGrow, shows-same, applied-own, applied-other, shows-applying}
 
 -- ---- the writes that become visible
@@ -147,7 +147,7 @@ module _ {s : List ℕ} {log : List Write} {n : ℕ} (k : Shows s log n) where
     -- its stamp is above every one of the log
     pub shows-taken-above : top 0 log < w .stamp
     shows-taken-above =
-        let high : highestOf s r ≡ top 0 log = k .holds r (live-in s r taken-live) .highest-is ∙ rw (taken-at, take-length) in
+        let high : highestOf s r ≡ top 0 log = ap (highestOf s) first ∙ head-highest k in
         omega (arith, accepts-above s r (w .stamp) a)
 
     -- so the stamps still rise

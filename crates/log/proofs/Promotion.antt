@@ -9,11 +9,13 @@ use native.Mathlib.Omega.{arith}
 use lib.Dec.{eqb}
 use lib.ListN.{getD, set, length-set}
 use lib.Seq.{getD-set-same, getD-set-other}
-use Rattle.store.specs.{lastNumberCell, joinCell, entryCell, valueCell, stampCell, liveCount, orderAt, numberAt, rowOf, highestOf, permittedBy, appliedBy, entryAt, valueAt, stampAt, raised}
+use Rattle.store.specs.{appliedCell, permitCell, highestCell, liveCell, lastNumberCell, joinCell, valueCell, stampCell, liveCount, orderAt, numberAt, rowOf, highestOf, permittedBy, appliedBy, entryAt, valueAt, stampAt, raised}
+use Rattle.stamp.specs.Stamps.{stampIn, setStamp}
+use Rattle.stamp.proofs.Cells.{length-stamp, stamp-reads, stamp-same, cell-beside, stamp-kept}
 use Rattle.chain.specs.{memberAt, tailOf, permitting}
 use Rattle.joins.specs.{isJoining, newcomer, newcomerNumber, lastNumber, promoted}
 use Rattle.chain.proofs.Members.{count-most, member-order}
-use Rattle.replicas.proofs.Cells.{SizedStore, row-below, within, value-from, value-below, stamp-is, entry-from, entry-below, entry-same}
+use Rattle.replicas.proofs.Cells.{SizedStore, row-below, within, value-from, value-below, stamp-is, stamp-over, entries-kept}
 use Rattle.log.proofs.Places.{Places, AtHead}
 
 module _ (s : List ℕ) (z : SizedStore s) (free : liveCount s < 8) where
@@ -21,47 +23,67 @@ module _ (s : List ℕ) (z : SizedStore s) (free : liveCount s < 8) where
   q = newcomer s
 
   abbrev high : List ℕ
-  high = set s (9 + rowOf q) (highestOf s (tailOf s))
+  high = setStamp s (highestCell (rowOf q)) (highestOf s (tailOf s))
 
   abbrev grown : List ℕ
-  grown = set high (25 + rowOf q) (appliedBy s (tailOf s))
+  grown = set high (appliedCell (rowOf q)) (appliedBy s (tailOf s))
 
   abbrev told : List ℕ
-  told = set grown (17 + rowOf q) (permittedBy s (tailOf s))
+  told = set grown (permitCell (rowOf q)) (permittedBy s (tailOf s))
 
   abbrev longer : List ℕ
-  longer = set told 0 (liveCount s + 1)
+  longer = set told liveCell (liveCount s + 1)
 
   promoted-is : promoted s ≡ set longer joinCell 0
   unfolding promoted raised permitting
   promoted-is = refl
 
-  pub sized-promoted : SizedStore (promoted s)
-  sized-promoted = rw promoted-is (simp length-set z)
+  -- as many cells at every stage
+  long-high : SizedStore high
+  long-high = length-stamp s (highestCell (rowOf q)) (highestOf s (tailOf s)) ∙ z
 
-  -- a cell that is none of the five
-  kept-promoted : (i : ℕ) → (i ≡ 9 + rowOf q → ⊥) → (i ≡ 25 + rowOf q → ⊥) → (i ≡ 17 + rowOf q → ⊥) → (i ≡ 0 → ⊥) → (i ≡ joinCell → ⊥) → getD (promoted s) i 0 ≡ getD s i 0
-  kept-promoted i a b c d e =
+  long-grown : SizedStore grown
+  long-grown = length-set high (appliedCell (rowOf q)) (appliedBy s (tailOf s)) ∙ long-high
+
+  long-told : SizedStore told
+  long-told = length-set grown (permitCell (rowOf q)) (permittedBy s (tailOf s)) ∙ long-grown
+
+  pub long-longer : SizedStore longer
+  long-longer = length-set told liveCell (liveCount s + 1) ∙ long-told
+
+  pub sized-promoted : SizedStore (promoted s)
+  sized-promoted = rw promoted-is (length-set longer joinCell 0 ∙ long-longer)
+
+  -- a cell that is none of the six
+  kept-promoted : (i : ℕ) → (i ≡ highestCell (rowOf q) → ⊥) → (i ≡ highestCell (rowOf q) + 1 → ⊥) → (i ≡ appliedCell (rowOf q) → ⊥) → (i ≡ permitCell (rowOf q) → ⊥) → (i ≡ liveCell → ⊥) → (i ≡ joinCell → ⊥) → getD (promoted s) i 0 ≡ getD s i 0
+  kept-promoted i a f b c d e =
       ap (λ (l : List ℕ). getD l i 0) promoted-is ∙
       getD-set-other longer joinCell i 0 0 e ∙
-      getD-set-other told 0 i (liveCount s + 1) 0 d ∙
-      getD-set-other grown (17 + rowOf q) i (permittedBy s (tailOf s)) 0 c ∙
-      getD-set-other high (25 + rowOf q) i (appliedBy s (tailOf s)) 0 b ∙
-      getD-set-other s (9 + rowOf q) i (highestOf s (tailOf s)) 0 a
+      getD-set-other told liveCell i (liveCount s + 1) 0 d ∙
+      getD-set-other grown (permitCell (rowOf q)) i (permittedBy s (tailOf s)) 0 c ∙
+      getD-set-other high (appliedCell (rowOf q)) i (appliedBy s (tailOf s)) 0 b ∙
+      cell-beside s (highestCell (rowOf q)) (highestOf s (tailOf s)) i a f
+
+  -- so are the places of the order, and all from the entries to the last number
+  pub order-kept-promoted : (i : ℕ) → 1 ≤ i → i < 9 → getD (promoted s) i 0 ≡ getD s i 0
+  order-kept-promoted i a b =
+      kept-promoted i (λ e. omega (arith, e, b)) (λ e. omega (arith, e, b)) (λ e. omega (arith, e, b)) (λ e. omega (arith, e, b)) (λ e. omega (arith, e, a)) (λ e. omega (arith, e, b))
+
+  pub tables-kept-promoted : (i : ℕ) → 41 ≤ i → i ≤ lastNumberCell → getD (promoted s) i 0 ≡ getD s i 0
+  tables-kept-promoted i a b =
+      kept-promoted i (λ e. omega (arith, e, a, row-below q)) (λ e. omega (arith, e, a, row-below q)) (λ e. omega (arith, e, a, row-below q)) (λ e. omega (arith, e, a, row-below q)) (λ e. omega (arith, e, a)) (λ e. omega (arith, e, b))
 
   pub count-promoted : liveCount (promoted s) ≡ liveCount s + 1
   unfolding liveCount
   count-promoted =
-      let cell : getD (promoted s) 0 0 ≡ liveCount s + 1 =
-      ap (λ (l : List ℕ). getD l 0 0) promoted-is ∙ getD-set-other longer joinCell 0 0 0 (λ e. omega arith) ∙
-      getD-set-same told 0 (liveCount s + 1) 0 (within told 0 (simp length-set z) (omega arith)) in
+      let cell : getD (promoted s) liveCell 0 ≡ liveCount s + 1 =
+      ap (λ (l : List ℕ). getD l liveCell 0) promoted-is ∙ getD-set-other longer joinCell liveCell 0 0 (λ e. omega (arith, e)) ∙
+      getD-set-same told liveCell (liveCount s + 1) 0 (within told liveCell long-told (omega arith)) in
       omega (arith, cell, free)
 
   pub order-promoted : (p : ℕ) → p < 8 → orderAt (promoted s) p ≡ orderAt s p
   unfolding orderAt
-  order-promoted p h =
-      ap (λ (n : ℕ). n % 256)
-      (kept-promoted (1 + p) (λ e. omega (arith, row-below q)) (λ e. omega (arith, row-below q)) (λ e. omega (arith, row-below q)) (λ e. omega arith) (λ e. omega arith))
+  order-promoted p h = ap (λ (n : ℕ). n % 256) (order-kept-promoted (1 + p) (omega arith) (omega (arith, h)))
 
   -- the members stay, and the newcomer is the last
   pub member-promoted : (p : ℕ) → p < liveCount s → memberAt (promoted s) p ≡ memberAt s p
@@ -74,82 +96,77 @@ module _ (s : List ℕ) (z : SizedStore s) (free : liveCount s < 8) where
   -- the tables stay
   pub value-promoted : (r o : ℕ) → valueAt (promoted s) r o ≡ valueAt s r o
   unfolding valueAt
-  value-promoted r o =
-      let i = valueCell (rowOf r) o in
-      kept-promoted i (λ e. omega (arith, e, value-from r o, row-below q)) (λ e. omega (arith, e, value-from r o, row-below q)) (λ e. omega (arith, e, value-from r o, row-below q))
-      (λ e. omega (arith, e, value-from r o)) (λ e. omega (arith, e, value-below r o))
+  value-promoted r o = tables-kept-promoted (valueCell (rowOf r) o) (omega (arith, value-from r o)) (omega (arith, value-below r o))
 
   pub stamp-promoted : (r o : ℕ) → stampAt (promoted s) r o ≡ stampAt s r o
   unfolding stampAt
   stamp-promoted r o =
-      let i = stampCell (rowOf r) o in
-      kept-promoted i (λ e. omega (arith, e, stamp-is r o, value-from r o, row-below q)) (λ e. omega (arith, e, stamp-is r o, value-from r o, row-below q)) (λ e. omega (arith, e, stamp-is r o, value-from r o, row-below q))
-      (λ e. omega (arith, e, stamp-is r o, value-from r o)) (λ e. omega (arith, e, stamp-is r o, value-below r o))
+      stamp-over (promoted s) s (stampCell (rowOf r) o) (λ j a b. tables-kept-promoted j (omega (arith, a, stamp-is r o)) (omega (arith, b, stamp-is r o, value-below r o)))
 
   pub entry-promoted : (p : ℕ) → entryAt (promoted s) p ≡ entryAt s p
-  entry-promoted p =
-      entry-same (promoted s) s p
-      (λ f h.
-      kept-promoted (entryCell f p) (λ e. omega (arith, e, entry-from f p, row-below q)) (λ e. omega (arith, e, entry-from f p, row-below q)) (λ e. omega (arith, e, entry-from f p, row-below q))
-      (λ e. omega (arith, e, entry-from f p)) (λ e. omega (arith, e, entry-below f p h)))
+  entry-promoted p = entries-kept (promoted s) s p (λ j a b. tables-kept-promoted j a (omega (arith, b)))
 
   -- the newcomer has the old tail's highest stamp and permitted switch, and has applied as much
   pub highest-promoted-own : highestOf (promoted s) q ≡ highestOf s (tailOf s)
   unfolding highestOf
   highest-promoted-own =
-      ap (λ (l : List ℕ). getD l (9 + rowOf q) 0) promoted-is ∙
-      getD-set-other longer joinCell (9 + rowOf q) 0 0 (λ e. omega (arith, row-below q)) ∙
-      getD-set-other told 0 (9 + rowOf q) (liveCount s + 1) 0 (λ e. omega arith) ∙
-      getD-set-other grown (17 + rowOf q) (9 + rowOf q) (permittedBy s (tailOf s)) 0 (λ e. omega arith) ∙
-      getD-set-other high (25 + rowOf q) (9 + rowOf q) (appliedBy s (tailOf s)) 0 (λ e. omega arith) ∙
-      getD-set-same s (9 + rowOf q) (highestOf s (tailOf s)) 0 (within s (9 + rowOf q) z (omega (arith, row-below q)))
+      let at = highestCell (rowOf q) in
+      ap (λ (l : List ℕ). stampIn l at) promoted-is ∙
+      stamp-kept longer joinCell 0 at (λ e. omega (arith, e, row-below q)) (λ e. omega (arith, e, row-below q)) ∙
+      stamp-kept told liveCell (liveCount s + 1) at (λ e. omega (arith, e)) (λ e. omega (arith, e)) ∙
+      stamp-kept grown (permitCell (rowOf q)) (permittedBy s (tailOf s)) at (λ e. omega (arith, e, row-below q)) (λ e. omega (arith, e, row-below q)) ∙
+      stamp-kept high (appliedCell (rowOf q)) (appliedBy s (tailOf s)) at (λ e. omega (arith, e, row-below q)) (λ e. omega (arith, e, row-below q)) ∙
+      stamp-same s at (highestOf s (tailOf s)) (within s (at + 1) z (omega (arith, row-below q)))
 
   pub applied-promoted-own : appliedBy (promoted s) q ≡ appliedBy s (tailOf s)
   unfolding appliedBy
   applied-promoted-own =
-      ap (λ (l : List ℕ). getD l (25 + rowOf q) 0) promoted-is ∙
-      getD-set-other longer joinCell (25 + rowOf q) 0 0 (λ e. omega (arith, row-below q)) ∙
-      getD-set-other told 0 (25 + rowOf q) (liveCount s + 1) 0 (λ e. omega arith) ∙
-      getD-set-other grown (17 + rowOf q) (25 + rowOf q) (permittedBy s (tailOf s)) 0 (λ e. omega (arith, row-below q)) ∙
-      getD-set-same high (25 + rowOf q) (appliedBy s (tailOf s)) 0 (within high (25 + rowOf q) (simp length-set z) (omega (arith, row-below q)))
+      let at = appliedCell (rowOf q) in
+      ap (λ (l : List ℕ). getD l at 0) promoted-is ∙
+      getD-set-other longer joinCell at 0 0 (λ e. omega (arith, e, row-below q)) ∙
+      getD-set-other told liveCell at (liveCount s + 1) 0 (λ e. omega (arith, e)) ∙
+      getD-set-other grown (permitCell (rowOf q)) at (permittedBy s (tailOf s)) 0 (λ e. omega (arith, e, row-below q)) ∙
+      getD-set-same high at (appliedBy s (tailOf s)) 0 (within high at long-high (omega (arith, row-below q)))
 
   pub permitted-promoted-own : permittedBy (promoted s) q ≡ permittedBy s (tailOf s)
   unfolding permittedBy
   permitted-promoted-own =
-      ap (λ (l : List ℕ). getD l (17 + rowOf q) 0) promoted-is ∙
-      getD-set-other longer joinCell (17 + rowOf q) 0 0 (λ e. omega (arith, row-below q)) ∙
-      getD-set-other told 0 (17 + rowOf q) (liveCount s + 1) 0 (λ e. omega arith) ∙
-      getD-set-same grown (17 + rowOf q) (permittedBy s (tailOf s)) 0 (within grown (17 + rowOf q) (simp length-set z) (omega (arith, row-below q)))
+      let at = permitCell (rowOf q) in
+      ap (λ (l : List ℕ). getD l at 0) promoted-is ∙
+      getD-set-other longer joinCell at 0 0 (λ e. omega (arith, e, row-below q)) ∙
+      getD-set-other told liveCell at (liveCount s + 1) 0 (λ e. omega (arith, e)) ∙
+      getD-set-same grown at (permittedBy s (tailOf s)) 0 (within grown at long-grown (omega (arith, row-below q)))
 
   -- every other replica keeps its own
   module _ (r : ℕ) (d : rowOf r ≡ rowOf q → ⊥) where
     pub highest-promoted : highestOf (promoted s) r ≡ highestOf s r
     unfolding highestOf
-    highest-promoted = kept-promoted (9 + rowOf r) (λ e. d (omega arith)) (λ e. omega (arith, row-below r)) (λ e. omega (arith, row-below r)) (λ e. omega arith) (λ e. omega (arith, row-below r))
+    highest-promoted =
+        let at = highestCell (rowOf r) in
+        stamp-reads (promoted s) s at
+        (kept-promoted at (λ e. d (omega (arith, e))) (λ e. omega (arith, e)) (λ e. omega (arith, e, row-below r)) (λ e. omega (arith, e, row-below r)) (λ e. omega (arith, e)) (λ e. omega (arith, e, row-below r)))
+        (kept-promoted (at + 1) (λ e. omega (arith, e)) (λ e. d (omega (arith, e))) (λ e. omega (arith, e, row-below r)) (λ e. omega (arith, e, row-below r)) (λ e. omega (arith, e)) (λ e. omega (arith, e, row-below r)))
 
     pub applied-promoted : appliedBy (promoted s) r ≡ appliedBy s r
     unfolding appliedBy
-    applied-promoted = kept-promoted (25 + rowOf r) (λ e. omega (arith, row-below q)) (λ e. d (omega arith)) (λ e. omega (arith, row-below q)) (λ e. omega arith) (λ e. omega (arith, row-below r))
+    applied-promoted =
+        kept-promoted (appliedCell (rowOf r)) (λ e. omega (arith, e, row-below q)) (λ e. omega (arith, e, row-below q)) (λ e. d (omega (arith, e))) (λ e. omega (arith, e, row-below q)) (λ e. omega (arith, e)) (λ e. omega (arith, e, row-below r))
 
     pub permitted-promoted : permittedBy (promoted s) r ≡ permittedBy s r
     unfolding permittedBy
-    permitted-promoted = kept-promoted (17 + rowOf r) (λ e. omega (arith, row-below q)) (λ e. omega (arith, row-below r)) (λ e. d (omega arith)) (λ e. omega arith) (λ e. omega (arith, row-below r))
+    permitted-promoted =
+        kept-promoted (permitCell (rowOf r)) (λ e. omega (arith, e, row-below q)) (λ e. omega (arith, e, row-below q)) (λ e. omega (arith, e, row-below r)) (λ e. d (omega (arith, e))) (λ e. omega (arith, e)) (λ e. omega (arith, e, row-below r))
 
 -- ---- the places
 
 module _ (s : List ℕ) (z : SizedStore s) (free : liveCount s < 8) (joins : isJoining s ≡ true) (g : Places s) where
   last-promoted : lastNumber (promoted s) ≡ lastNumber s
   unfolding lastNumber
-  last-promoted =
-      ap (λ (n : ℕ). n % 256)
-      (kept-promoted s z free lastNumberCell (λ e. omega (arith, e, row-below (newcomer s))) (λ e. omega (arith, e, row-below (newcomer s))) (λ e. omega (arith, e, row-below (newcomer s)))
-      (λ e. omega (arith, e)) (λ e. omega (arith, e)))
+  last-promoted = ap (λ (n : ℕ). n % 256) (tables-kept-promoted s z free lastNumberCell (omega arith) (omega arith))
 
   number-promoted : (p : ℕ) → p < 8 → numberAt (promoted s) p ≡ numberAt s p
   unfolding numberAt
-  number-promoted p h =
-      ap (λ (n : ℕ). n / 256 % 256)
-      (kept-promoted s z free (1 + p) (λ e. omega (arith, e, h)) (λ e. omega (arith, e, h)) (λ e. omega (arith, e, h)) (λ e. omega (arith, e)) (λ e. omega (arith, e, h)))
+  number-promoted p h = ap (λ (n : ℕ). n / 256 % 256) (order-kept-promoted s z free (1 + p) (omega arith) (omega (arith, h)))
 
   -- no join is under way any more
   pub joining-promoted : isJoining (promoted s) ≡ false
@@ -157,7 +174,7 @@ module _ (s : List ℕ) (z : SizedStore s) (free : liveCount s < 8) (joins : isJ
   joining-promoted =
       ap (λ (n : ℕ). not (eqb n 0))
       (ap (λ (l : List ℕ). getD l joinCell 0) (promoted-is s z free) ∙
-      getD-set-same (longer s z free) joinCell 0 0 (within (longer s z free) joinCell (simp length-set z) (omega arith)))
+      getD-set-same (longer s z free) joinCell 0 0 (within (longer s z free) joinCell (long-longer s z free) (omega arith)))
 
   -- the number at a place, and that of the newcomer
   number-live : (p : ℕ) → p < liveCount (promoted s) → (p < liveCount s) ⊎ (p ≡ liveCount s)

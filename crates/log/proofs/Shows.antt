@@ -7,11 +7,11 @@ use native.Mathlib.Numerals.{add-one}
 use native.Mathlib.Decide.{ℕ-discrete}
 use native.Mathlib.Omega.{arith}
 use lib.ListN.{length, getD, take}
-use lib.Seq.{take-nil}
+use lib.Seq.{take-nil, take-length}
 use Rattle.history.specs.History.{_∈_}
 use Rattle.history.proofs.Lists.{in-getD}
 use Rattle.store.specs.declared.Write.{Write}
-use Rattle.store.specs.{liveCount, members, appliedBy, entryAt, valueAt, stampAt}
+use Rattle.store.specs.{liveCount, members, highestOf, appliedBy, entryAt, valueAt, stampAt}
 use Rattle.chain.specs.{chainPlace, isLive, memberAt, headOf, tailOf, permitting, emptyStore}
 use Rattle.replicas.specs.Replicas.{linkedWrites, applying}
 use Rattle.chain.proofs.Members.{head-is, tail-is, member-in, in-live, live-in, place-at, place-below, count-same, head-same, tail-same}
@@ -84,6 +84,10 @@ module _ {s : List ℕ} {log : List Write} {m n : ℕ} (k : ShowsTo s log m n) w
   -- the links hold what lies between
   pub linked-is : linkedWrites s ≡ m - n
   linked-is = moves.linked-is s ∙ rw (k .head-has, k .tail-has)
+
+-- the head's highest stamp is the last of the log
+pub head-highest : {s : List ℕ} {log : List Write} {n : ℕ} → Shows s log n → highestOf s (headOf s) ≡ top 0 log
+head-highest {s} k = k .holds (headOf s) (live-in s (headOf s) (head-live k)) .highest-is ∙ rw (k .head-has, take-length)
 
 -- ---- reads
 

@@ -46,10 +46,10 @@ use Rattle.machine.proofs.step as step
 
 -- the numbers of the switch, the store and the open operations
 abbrev pub Switch : RattleType
-Switch = Array u32 101
+Switch = Array u32 150
 
 abbrev pub Store : RattleType
-Store = Array u32 16675
+Store = Array u32 24939
 
 abbrev pub Opens : RattleType
 Opens = Array u32 642

@@ -1,7 +1,6 @@
 // Packets and the messages that they hold.
 ghost use mathlib.Core.Path.{_≡_};
 ghost use Rattle.protocol.specs.Messages.{packetOf, contextMessage, messageOf, isUnstamped, isOfContext, inRow, writeOf};
-use limits::Freshness;
 use limits::Number;
 use limits::Object;
 use limits::Operation;
@@ -20,19 +19,17 @@ fn packet(
     object: Object,
     value: Value,
     stamp: Stamp,
-    freshness: Freshness,
 ) -> Packet
-    ensures { λ r. ⌜ r ≡ record { kind = kind; replica = replica; number = number; operation = operation; object = object; value = value; stamp = stamp; freshness = freshness } ⌝ }
+    ensures { λ r. ⌜ r ≡ record { kind = kind; replica = replica; number = number; operation = operation; stamp = stamp; object = object; value = value } ⌝ }
 {
     Packet {
         kind,
         replica,
         number,
         operation,
+        stamp,
         object,
         value,
-        stamp,
-        freshness,
     }
 }
 
@@ -41,19 +38,17 @@ pub fn packet_of(m: Message) -> Packet
     ensures { λ r. ⌜ r ≡ packetOf m ⌝ }
 {
     match m {
-        Message::UnstampedWrite(o, x, v) => packet(1, 0, 0, o, x, v, 0, 0),
-        Message::SwitchRead(o, x) => packet(2, 0, 0, o, x, 0, 0, 0),
-        Message::StampedWrite(r, w) => {
-            packet(3, r, 0, w.operation, w.object, w.value, w.stamp, 0)
-        }
-        Message::DirectRead(r, number, t, o, x) => packet(4, r, number, o, x, 0, t, 0),
-        Message::NormalRead(r, o, x, t) => packet(5, r, 0, o, x, 0, t, 0),
-        Message::Completion(x, t) => packet(6, 0, 0, 0, x, 0, t, 0),
-        Message::Reply(o, v, t, f) => packet(7, 0, 0, o, 0, v, t, f),
-        Message::ContextRead(o, r) => packet(8, 0, 0, o, 0, r, 0, 0),
-        Message::DirectContext(q, number, t, o, r) => packet(9, q, number, o, 0, r, t, 0),
-        Message::NormalContext(q, o, r) => packet(10, q, 0, o, 0, r, 0, 0),
-        Message::ContextReply(o, r) => packet(11, 0, 0, o, 0, r, 0, 0),
+        Message::UnstampedWrite(o, x, v) => packet(1, 0, 0, o, x, v, 0),
+        Message::SwitchRead(o, x) => packet(2, 0, 0, o, x, 0, 0),
+        Message::StampedWrite(r, w) => { packet(3, r, 0, w.operation, w.object, w.value, w.stamp) }
+        Message::DirectRead(r, number, t, o, x) => packet(4, r, number, o, x, 0, t),
+        Message::NormalRead(r, o, x, t) => packet(5, r, 0, o, x, 0, t),
+        Message::Completion(x, t) => packet(6, 0, 0, 0, x, 0, t),
+        Message::Reply(o, v, t, f) => packet(7, 0, f, o, 0, v, t),
+        Message::ContextRead(o, r) => packet(8, 0, 0, o, 0, r, 0),
+        Message::DirectContext(q, number, t, o, r) => packet(9, q, number, o, 0, r, t),
+        Message::NormalContext(q, o, r) => packet(10, q, 0, o, 0, r, 0),
+        Message::ContextReply(o, r) => packet(11, 0, 0, o, 0, r, 0),
         Message::Unknown => Packet::blank(),
     }
 }
@@ -111,7 +106,7 @@ pub fn message_of(p: Packet) -> Message
         return Message::Completion(p.object, p.stamp);
     }
     if p.kind == 7 {
-        return Message::Reply(p.operation, p.value, p.stamp, p.freshness);
+        return Message::Reply(p.operation, p.value, p.stamp, p.number);
     }
     context_message(p)
 }
@@ -141,9 +136,8 @@ pub fn in_row(p: Packet, row: u32) -> Packet
         replica: p.replica,
         number: p.number,
         operation: p.operation,
+        stamp: p.stamp,
         object: p.object,
         value: row,
-        stamp: p.stamp,
-        freshness: p.freshness,
     }
 }

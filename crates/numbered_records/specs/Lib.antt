@@ -16,7 +16,8 @@ use Rattle.records.specs.Records.{kindOfTag, contextKind, noStep, contentLength
 -- the largest first and second number of each kind of step: what its fields hold
 unfoldable pub largestFirst : ℕ → ℕ
 largestFirst k =
-    cond (eqb k 0) 255 (cond (eqb k 6) 255 (cond (eqb k 8) 255 (cond (eqb k 9) 255 (cond (eqb k 12) 0 (cond (eqb k 13) 0 65535)))))
+    cond (eqb k 0) 255
+    (cond (eqb k 6) 255 (cond (eqb k 8) 255 (cond (eqb k 9) 255 (cond (eqb k 10) limits.lastOperation (cond (eqb k 12) 0 (cond (eqb k 13) 0 65535))))))
 
 unfoldable pub largestSecond : ℕ → ℕ
 largestSecond k = cond (eqb k 2) 4294967295 (cond (eqb k 3) 255 0)
@@ -42,7 +43,7 @@ stepFrom k a b =
     (cond (eqb k 6) (Advance (a % 256))
     (cond (eqb k 7) (Replace (a % 65536))
     (cond (eqb k 8) (Tell (a % 256))
-    (cond (eqb k 9) (Remove (a % 256)) (cond (eqb k 12) Join (cond (eqb k 13) Copy (GiveUp (a % 65536)))))))))))))
+    (cond (eqb k 9) (Remove (a % 256)) (cond (eqb k 12) Join (cond (eqb k 13) Copy (GiveUp a))))))))))))
 
 -- refusal 1 where there is no such record, 15 where the buffer is too short, 0 where it is written
 unfoldable pub recordRefusal : List ℕ → ℕ → ℕ → ℕ → ℕ

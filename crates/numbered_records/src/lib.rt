@@ -5,6 +5,7 @@ ghost use lib.ListN.{length, getD};
 ghost use Rattle.records.specs.Records.{writtenAt, bufferAfter, writtenRefusal};
 ghost use Rattle.numbered_records.specs.{largestFirst, largestSecond, hasNumbers, isRecord, stepFrom, recordRefusal, recordBuffer, recordSize, objectsFrom, contextRefusal, contextBuffer};
 use contexts::Objects;
+use limits::LAST_OPERATION;
 use protocol::Refusal;
 use protocol::Step;
 use protocol::answers;
@@ -20,6 +21,7 @@ fn largest_first(kind: usize) -> u32
         6 => 255,
         8 => 255,
         9 => 255,
+        10 => LAST_OPERATION,
         12 => 0,
         13 => 0,
         _ => 65535,
@@ -75,7 +77,7 @@ fn step_from(kind: usize, first: u32, second: u32) -> Step
         9 => Step::Remove((first % 256) as u8),
         12 => Step::Join,
         13 => Step::Copy,
-        _ => Step::GiveUp((first % 65536) as u16),
+        _ => Step::GiveUp(first),
     }
 }
 

@@ -6,6 +6,7 @@ use Prim.Native.Nat.{ℕ, _+_}
 use lib.Dec.{eqb}
 use lib.ListN.{set}
 use Rattle.lists.specs.{indexOf, listOf, moves}
+use Rattle.stamp.specs.Stamps.{stampOf, numberOf, counterOf, stampIn, setStamp}
 use Rattle.operations.specs.{noneOpen}
 use Rattle.store.specs.declared.Write.{Write}
 use Rattle.store.specs.{lastNumberCell, joinCell, valueCell, stampCell, storeCells, liveCount, orderAt, numberAt, members, rowOf, valueAt, stampAt, tabled}
@@ -44,7 +45,7 @@ overfullJoin : List ℕ
 overfullJoin = set (emptyStore 8) joinCell 1
 
 abbrev written : ℕ → Write
-written x = record { operation = 1; object = x; value = 9; stamp = 65537 }
+written x = record { operation = 1; object = x; value = 9; stamp = stampOf 1 1 }
 
 pub join-points : List Point
 join-points =
@@ -70,12 +71,12 @@ join-points =
     isJoining (after (chained (joinedBy 3)) (Remove 3) .store) ∷ []) ∷
     -- a write reaches the newcomer exactly if its object has been copied
     point 6
-    (eqb (valueAt (handingOn (joinedBy 1) (written 63)) 3 63) 9 ∷ eqb (stampAt (handingOn (joinedBy 1) (written 63)) 3 63) 65537 ∷
+    (eqb (valueAt (handingOn (joinedBy 1) (written 63)) 3 63) 9 ∷ eqb (stampAt (handingOn (joinedBy 1) (written 63)) 3 63) (stampOf 1 1) ∷
     eqb (valueAt (handingOn (joinedBy 1) (written 64)) 3 64) 0 ∷ eqb (valueAt (handingOn (joinedBy 0) (written 0)) 3 0) 0 ∷
     eqb (valueAt (handingOn (emptyStore 2) (written 0)) 3 0) 0 ∷ []) ∷
     []
 
 -- the definitions compute every row, and no row is missing
 pub join-points-hold : allHold 1 6 join-points ≡ true
-unfolding join-points chained answers joinedBy usedUp overfullJoin allHold allTrue gives sends emptyList indexOf listOf moves noneOpen valueCell stampCell storeCells liveCount orderAt numberAt members rowOf valueAt stampAt tabled memberAt numbers placeOf isMember isTail tableOf numberIn tailNumber removed emptyCells numbered emptyStore isJoining copiesMade newcomer newcomerNumber lastNumber isFull beginning isCopied handingOn joinEnded without newSwitch heldIn noneWait lookAt packetOf refusing dropping passing freshness normalRead advancing telling removing joining copyingOn positionOf isMalformed decided decidedIn answerTo after
+unfolding join-points chained answers joinedBy usedUp overfullJoin allHold allTrue gives sends emptyList stampOf numberOf counterOf stampIn setStamp indexOf listOf moves noneOpen valueCell stampCell storeCells liveCount orderAt numberAt members rowOf valueAt stampAt tabled memberAt numbers placeOf isMember isTail tableOf numberIn tailNumber removed emptyCells numbered emptyStore isJoining copiesMade newcomer newcomerNumber lastNumber isFull beginning isCopied handingOn joinEnded without newSwitch heldIn noneWait lookAt packetOf refusing dropping passing freshness normalRead advancing telling removing joining copyingOn positionOf isMalformed decided decidedIn answerTo after
 join-points-hold = refl

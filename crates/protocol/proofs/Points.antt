@@ -9,9 +9,9 @@ use lib.ListN.{getD, set, replicate}
 use Rattle.limits.specs as limits
 use Rattle.lists.specs.{indexOf, listOf, moves, allOf}
 use Rattle.contexts.specs.{placeOf, sizeOf, numbersOf, isCount, isObject, areObjects, standsFirst, areDifferent, emptyAt, isNaming, rowCell, sizeAt, freeRow}
-use Rattle.stamp.specs.Stamps.{stampOf, numberOf, counterOf, isAbove, largerOf}
+use Rattle.stamp.specs.Stamps.{stampOf, numberOf, counterOf, isAbove, largerOf, stampIn, setStamp}
 use Rattle.operations.specs.{noneOpen, openCount, openNumbers, openPlace, isOpen, lastGiven, roomToOpen, opening}
-use Rattle.store.specs.{entryCell, valueCell, stampCell, storeCells, liveCount, orderAt, numberAt, members, rowOf, highestOf, permittedBy, appliedBy, valueAt, stampAt, logged, tabled, raised}
+use Rattle.store.specs.{entryCell, entryStampCell, valueCell, stampCell, storeCells, liveCount, orderAt, numberAt, members, rowOf, highestOf, permittedBy, appliedBy, valueAt, stampAt, logged, tabled, raised}
 use Rattle.chain.specs.{memberAt, headOf, tailOf, numbers, placeOf as placeOfNumber, isMember, isTail, tableOf, numberIn as numberInChain, headNumber, tailNumber, chosenBy, permits, allPermit, permitting, removed, emptyCells, numbered, emptyStore}
 use Rattle.replicas.specs.Replicas.{linkedWrites, accepts, nextPosition, applying, taking, pendingAt, oldest, answersDirect}
 use Rattle.joins.specs.{isJoining, copiesMade, isCopied, handingOn, joinEnded, without}
@@ -145,7 +145,9 @@ marksAfter w l x = steppedBy (machine w (emptyStore 2) noneOpen l) x .marks
 pub points : List Point
 points =
     -- '(1,65535) is below (2,1).'
-    point 1 (isAbove (stampOf 2 1) (stampOf 1 65535) ∷ not (isAbove (stampOf 1 65535) (stampOf 2 1)) ∷ []) ∷
+    point 1
+    (isAbove (stampOf 2 1) (stampOf 1 65535) ∷ not (isAbove (stampOf 1 65535) (stampOf 2 1)) ∷ isAbove (stampOf 2 1) (stampOf 1 limits.lastCounter) ∷
+    isAbove (stampOf 1 65536) (stampOf 1 65535) ∷ []) ∷
     -- 'Object 1,023 is taken; 1,024 gives 3.'
     point 2
     (gives (answerTo (lone emptyList) (BeginRead 1023)) 0 ∷ gives (answerTo (lone emptyList) (BeginRead 1024)) 3 ∷
@@ -242,5 +244,5 @@ pub record PointsHold : Type 0 where
   pub marks-points-hold : allHold 1 7 marks-points ≡ true
 
 pub holds : PointsHold
-unfolding points allHold allTrue gives lone copies emptyList markedAll switchOfP4 switchOfP7 storeOfP6 readOfP6 sends writeOfP10 storeOfP11 stampOf numberOf counterOf isAbove largerOf noneOpen openCount lastGiven roomToOpen indexOf listOf moves entryCell valueCell stampCell storeCells liveCount orderAt numberAt members rowOf highestOf permittedBy appliedBy valueAt stampAt logged tabled raised memberAt headOf tailOf numbers placeOfNumber isMember isTail tableOf numberInChain headNumber tailNumber chosenBy removed emptyCells numbered emptyStore linkedWrites accepts nextPosition applying taking answersDirect numberIn counterIn committedIn slotObject slotStamp firstSlot secondSlot thirdSlot holdsObject countsAbove isFree holdsAbove freeSlot slotFor markAbove lookedUp nextStamp marking canMark marked isCompleted clearedAt completed newSwitch countedTo countedMarks heldIn noneWait lookAt takesOut leftBy fits afterTaking adding edited packetOf messageOf isUnstamped isOfContext refusing passing overfull directRead stampedWrite deliveredMessage startRefused startAnswer beginOperation delivered copied repeated positionOf isMalformed decided decidedIn answerTo after context-points naming beginContext allOf placeOf sizeOf numbersOf isCount isObject areObjects standsFirst areDifferent emptyAt isNaming rowCell sizeAt freeRow opening marks-points stored several marksAfter marksIn lessOne oneMore marksFor committing leaving released dropping stamping unstampedWrite switchRead normalRead completion reply lost advancing pendingAt oldest handingOn isCopied isJoining copiesMade joinEnded without replacing telling permitting removing givingUp stampFor asking allPermit permits directIn isOpen openPlace openNumbers
+unfolding points allHold allTrue gives lone copies emptyList markedAll switchOfP4 switchOfP7 storeOfP6 readOfP6 sends writeOfP10 storeOfP11 stampOf numberOf counterOf isAbove largerOf stampIn setStamp entryStampCell noneOpen openCount lastGiven roomToOpen indexOf listOf moves entryCell valueCell stampCell storeCells liveCount orderAt numberAt members rowOf highestOf permittedBy appliedBy valueAt stampAt logged tabled raised memberAt headOf tailOf numbers placeOfNumber isMember isTail tableOf numberInChain headNumber tailNumber chosenBy removed emptyCells numbered emptyStore linkedWrites accepts nextPosition applying taking answersDirect numberIn counterIn committedIn slotObject slotStamp firstSlot secondSlot thirdSlot holdsObject countsAbove isFree holdsAbove freeSlot slotFor markAbove lookedUp nextStamp marking canMark marked isCompleted clearedAt completed newSwitch countedTo countedMarks heldIn noneWait lookAt takesOut leftBy fits afterTaking adding edited packetOf messageOf isUnstamped isOfContext refusing passing overfull directRead stampedWrite deliveredMessage startRefused startAnswer beginOperation delivered copied repeated positionOf isMalformed decided decidedIn answerTo after context-points naming beginContext allOf placeOf sizeOf numbersOf isCount isObject areObjects standsFirst areDifferent emptyAt isNaming rowCell sizeAt freeRow opening marks-points stored several marksAfter marksIn lessOne oneMore marksFor committing leaving released dropping stamping unstampedWrite switchRead normalRead completion reply lost advancing pendingAt oldest handingOn isCopied isJoining copiesMade joinEnded without replacing telling permitting removing givingUp stampFor asking allPermit permits directIn isOpen openPlace openNumbers
 holds = record { points-hold = refl; context-points-hold = refl; marks-points-hold = refl }

@@ -8,23 +8,23 @@ use Rattle.waiting.specs.Waiting.{blank}
 use Rattle.protocol.specs.declared.Message.{Message}
 use Rattle.protocol.specs.declared.Message.the-variants.{UnstampedWrite, SwitchRead, StampedWrite, DirectRead, NormalRead, Completion, Reply, ContextRead, DirectContext, NormalContext, ContextReply, Unknown}
 
-abbrev pub packet : ℕ → ℕ → ℕ → ℕ → ℕ → ℕ → ℕ → ℕ → Packet
-packet kind replica number operation object value stamp freshness =
-    record { kind = kind; replica = replica; number = number; operation = operation; object = object; value = value; stamp = stamp; freshness = freshness }
+abbrev pub packet : ℕ → ℕ → ℕ → ℕ → ℕ → ℕ → ℕ → Packet
+packet kind replica number operation object value stamp =
+    record { kind = kind; replica = replica; number = number; operation = operation; stamp = stamp; object = object; value = value }
 
--- the packet that holds a message. Of a read of a whole context the value names the row that holds its objects or its values: a packet does not grow by its contents
+-- the packet that holds a message. What a reply says of a pending write stands where a direct read's switch number does. Of a read of a whole context the value names the row that holds its objects or its values: a packet does not grow by its contents
 unfoldable pub packetOf : Message → Packet
-packetOf (UnstampedWrite o x v) = packet 1 0 0 o x v 0 0
-packetOf (SwitchRead o x) = packet 2 0 0 o x 0 0 0
-packetOf (StampedWrite r w) = packet 3 r 0 (w .operation) (w .object) (w .value) (w .stamp) 0
-packetOf (DirectRead r number t o x) = packet 4 r number o x 0 t 0
-packetOf (NormalRead r o x t) = packet 5 r 0 o x 0 t 0
-packetOf (Completion x t) = packet 6 0 0 0 x 0 t 0
-packetOf (Reply o v t f) = packet 7 0 0 o 0 v t f
-packetOf (ContextRead o r) = packet 8 0 0 o 0 r 0 0
-packetOf (DirectContext q number t o r) = packet 9 q number o 0 r t 0
-packetOf (NormalContext q o r) = packet 10 q 0 o 0 r 0 0
-packetOf (ContextReply o r) = packet 11 0 0 o 0 r 0 0
+packetOf (UnstampedWrite o x v) = packet 1 0 0 o x v 0
+packetOf (SwitchRead o x) = packet 2 0 0 o x 0 0
+packetOf (StampedWrite r w) = packet 3 r 0 (w .operation) (w .object) (w .value) (w .stamp)
+packetOf (DirectRead r number t o x) = packet 4 r number o x 0 t
+packetOf (NormalRead r o x t) = packet 5 r 0 o x 0 t
+packetOf (Completion x t) = packet 6 0 0 0 x 0 t
+packetOf (Reply o v t f) = packet 7 0 f o 0 v t
+packetOf (ContextRead o r) = packet 8 0 0 o 0 r 0
+packetOf (DirectContext q number t o r) = packet 9 q number o 0 r t
+packetOf (NormalContext q o r) = packet 10 q 0 o 0 r 0
+packetOf (ContextReply o r) = packet 11 0 0 o 0 r 0
 packetOf Unknown = blank
 
 abbrev pub writeOf : Packet → Write
@@ -47,7 +47,7 @@ messageOf p =
     (cond (eqb (p .kind) 4) (DirectRead (p .replica) (p .number) (p .stamp) (p .operation) (p .object))
     (cond (eqb (p .kind) 5) (NormalRead (p .replica) (p .operation) (p .object) (p .stamp))
     (cond (eqb (p .kind) 6) (Completion (p .object) (p .stamp))
-    (cond (eqb (p .kind) 7) (Reply (p .operation) (p .value) (p .stamp) (p .freshness)) (contextMessage p)))))))
+    (cond (eqb (p .kind) 7) (Reply (p .operation) (p .value) (p .stamp) (p .number)) (contextMessage p)))))))
 
 -- 'repeat of an unstamped write'
 unfoldable pub isUnstamped : Packet → Bool
@@ -59,4 +59,4 @@ isOfContext p = cond (ltb (p .kind) 8) false (leb (p .kind) 11)
 
 -- the packet with another row
 abbrev pub inRow : Packet → ℕ → Packet
-inRow p r = packet (p .kind) (p .replica) (p .number) (p .operation) (p .object) r (p .stamp) (p .freshness)
+inRow p r = packet (p .kind) (p .replica) (p .number) (p .operation) (p .object) r (p .stamp)

@@ -5,6 +5,7 @@ pub mod answers;
 use contexts::Context;
 use contexts::Objects;
 use limits::Freshness;
+use limits::HeldFreshness;
 use limits::Number;
 use limits::Object;
 use limits::Operation;
@@ -26,7 +27,7 @@ pub enum Step {
     Replace(u16),
     Tell(u8),
     Remove(u8),
-    GiveUp(u16),
+    GiveUp(u32),
     BeginContext(Objects),
     Join,
     Copy,
@@ -72,7 +73,7 @@ pub enum Message {
     DirectRead(Replica, Number, Stamp, Operation, Object),
     NormalRead(Replica, Operation, Object, Stamp),
     Completion(Object, Stamp),
-    Reply(Operation, Value, Stamp, Freshness),
+    Reply(Operation, Value, Stamp, HeldFreshness),
     ContextRead(Operation, u32),
     DirectContext(Replica, Number, Stamp, Operation, u32),
     NormalContext(Replica, Operation, u32),

@@ -2,7 +2,7 @@
 ghost use mathlib.Core.Path.{_≡_};
 ghost use Prim.Native.Nat.{_+_, _≤_, _<_};
 ghost use lib.ListN.{length};
-ghost use Rattle.records.specs.Records.{byteAt, twoAt, fourAt, objectsIn, stepOf, recordOfKind, recordAt, inPlace, nextOf, nextAt};
+ghost use Rattle.records.specs.Records.{byteAt, twoAt, fourAt, objectsIn, operationIn, stepOf, recordOfKind, recordAt, inPlace, nextOf, nextAt};
 
 mod cursor;
 
@@ -11,9 +11,11 @@ pub use cursor::Reader;
 pub use cursor::read_at;
 use protocol::Step;
 use records::Found;
+use records::GIVE_UP_KIND;
 use records::NO_STEP;
 use records::Next;
 use records::is_length;
+use records::is_short_give_up;
 use records::kind_of;
 use records::kind_of_tag;
 use records::within;
@@ -62,6 +64,17 @@ fn objects_in(content: &[u8]) -> Objects
     }
 }
 
+// Req 07: the operation to give up, in two bytes or in four.
+fn operation_in(content: &[u8]) -> u32
+    requires { ⌜ length (now content) < 65536 ⌝ }
+    ensures { λ r. ⌜ r ≡ operationIn (now (content .entry)) ⌝ }
+{
+    if is_short_give_up(GIVE_UP_KIND, content.len() as u16) {
+        return two_at(content, 0) as u32;
+    }
+    four_at(content, 0)
+}
+
 // The step of a kind with this content.
 fn step_of(kind: usize, content: &[u8]) -> Step
     requires { ⌜ length (now content) < 65536 ⌝ }
@@ -78,7 +91,7 @@ fn step_of(kind: usize, content: &[u8]) -> Step
         7 => Step::Replace(two_at(content, 0)),
         8 => Step::Tell(byte_at(content, 0)),
         9 => Step::Remove(byte_at(content, 0)),
-        10 => Step::GiveUp(two_at(content, 0)),
+        10 => Step::GiveUp(operation_in(content)),
         12 => Step::Join,
         13 => Step::Copy,
         _ => Step::BeginContext(objects_in(content)),

@@ -180,8 +180,3 @@ objects-naming c e =
     let a = length-allowed (length c) e in
     let empty : (i : ℕ) → emptyAt (length c / 2) i (twoAt c (2 * i)) ≡ true = λ i. empty-behind c i (a .0) in
     naming-last (objectsIn c) (a .1) (empty 2) (empty 3) (empty 4) (empty 5) (empty 6) ∙ empty 7
-
--- and their content is as long as it was
-pub objects-kept : (c : List ℕ) → isContextLength (length c) ≡ true → length (objectBytes (objectsIn c)) ≡ length c
-unfolding objectsIn
-objects-kept c e = let a = length-allowed (length c) e in omega (arith, objects-count (objectsIn c) (objects-naming c e))

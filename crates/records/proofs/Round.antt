@@ -1,20 +1,22 @@
 -- Reading gives the step that was written, and writing the step read gives the record's bytes.
 use mathlib.Core.Path.{_≡_, refl, sym, ap, _∙_}
 use mathlib.Core.Bool.{Bool, true, false, cond, not}
-use mathlib.Core.List.{List, [], _++_, append-assoc}
-use Prim.Native.Nat.{ℕ, _+_, _≤_, _<_}
+use mathlib.Core.List.{List, [], _∷_, _++_, append-assoc}
+use Prim.Native.Nat.{ℕ, _+_, _*_, _/_, _%_, _≤_, _<_}
+use native.Mathlib.Nat.{add-zero}
 use native.Mathlib.Omega.{arith}
 use lib.Dec.{leb, eqb}
 use lib.ListN.{length, take, drop, length-append, length-drop, take-append-drop}
-use lib.Seq.{slice, take-add, take-at, drop-at, length-take-le}
+use lib.Seq.{slice, take-add, take-at, drop-at, getD-drop, length-take-le}
 use borrow.Author.Tests.{le-leb, lt-leb, ne-eqb, leb-true, not-true}
 use Rattle.protocol.specs.declared.Step.{Step}
+use Rattle.protocol.specs.declared.Step.the-variants.{GiveUp}
 use Rattle.records.specs.declared.Found.{Found}
 use Rattle.records.specs.declared.Next.{Next}
-use Rattle.records.specs.Records.{byteAt, twoAt, twoBytes, kindOfTag, tagOf, isLength, kindOf, contentOf, headerOf, recordOf, recordAt, isStart, inPlace, nextOf, nextAt, isWritable, hasRoom, writtenAt, bufferAfter, nextRefusal, writtenRefusal, AllBytes, InRange}
+use Rattle.records.specs.Records.{byteAt, twoAt, twoBytes, fourBytes, kindOfTag, tagOf, isShortGiveUp, isLength, kindOf, contentOf, headerOf, recordOf, stepOf, recordAt, isShortAt, isStart, inPlace, nextOf, nextAt, isWritable, hasRoom, writtenAt, bufferAfter, nextRefusal, writtenRefusal, AllBytes, InRange}
 use Rattle.records.proofs.Bytes.{two-read, two-written, first-bytes}
 use Rattle.records.proofs.Parts.{byte-from, two-from, content-from, bytes-drop, bytes-take, found, Parts, parts}
-use Rattle.records.proofs.Table.{row, read-as, kind-read, writable-read, size-read, tag-known, record-size}
+use Rattle.records.proofs.Table.{row, read-as, short-give-up, short-read, kind-read, writable-read, tag-known, record-size}
 
 -- ---- written, then read
 
@@ -67,26 +69,60 @@ content-size l at k w n s p =
     let sized : length (take w (drop (at + 3) l)) ≡ w = length-take-le w (drop (at + 3) l) (omega (arith, length-drop (at + 3) l)) in
     (sized, ap (isLength k) sized ∙ p .size)
 
--- the step that was read has the kind and the content that stand there, and its numbers fit
+-- the step that was read has the kind and, but for a give-up of two bytes, the content that stand there, and its numbers fit
 step-read : (l : List ℕ) (at k w n : ℕ) (s : Step) → AllBytes l → Parts l at k w n s
-    → (kindOf s ≡ k) × (contentOf s ≡ take w (drop (at + 3) l)) × InRange s
+    → (kindOf s ≡ k) × (isShortGiveUp k w ≡ false → contentOf s ≡ take w (drop (at + 3) l)) × InRange s
 step-read l at k w n s b p =
     let c : List ℕ = take w (drop (at + 3) l) in
-    let r = read-as k (p .below) c (content-size l at k w n s p .1) (bytes-take (drop (at + 3) l) w (bytes-drop l (at + 3) b)) in
-    rw (← p .step) (kind-read k (p .below) c, r .0, r .1)
+    let q = content-size l at k w n s p in
+    let r = read-as k (p .below) c (q .1) (bytes-take (drop (at + 3) l) w (bytes-drop l (at + 3) b)) in
+    rw (← p .step) (kind-read k (p .below) c, λ long. r .0 (ap (isShortGiveUp k) (q .0) ∙ long), r .1)
 
--- 'writing the step read gives the record's bytes'
-pub written-read : (l : List ℕ) (at n : ℕ) (s : Step) → AllBytes l → recordAt l at ≡ Found.Record s n → recordOf s ≡ slice at n l
-unfolding recordOf
-written-read l at n s b e =
+-- 'writing the step read gives the record's bytes'; Req 07: for every record but a give-up of length 2
+pub written-read : (l : List ℕ) (at n : ℕ) (s : Step) → AllBytes l → recordAt l at ≡ Found.Record s n → isShortAt l at ≡ false → recordOf s ≡ slice at n l
+unfolding recordOf isShortAt
+written-read l at n s b e long =
     let k : ℕ = kindOfTag (byteAt l at) in
     let w : ℕ = twoAt l (at + 1) in
     let p = parts l at n s e in
     let r = step-read l at k w n s b p in
+    let content = r .1 long in
     let room : at + 3 + w ≤ length l = p .room in
     let end : n ≡ at + (3 + w) = omega (arith, p .next) in
-    let sized : length (contentOf s) ≡ w = ap length (r .1) ∙ content-size l at k w n s p .0 in
-    rw (sized, r .0, r .1, header-read l at k n s b p, content-from l at, ← take-add 3 w (drop at l), end, slice-take l at (3 + w) (omega arith))
+    let sized : length (contentOf s) ≡ w = ap length content ∙ content-size l at k w n s p .0 in
+    rw (sized, r .0, content, header-read l at k n s b p, content-from l at, ← take-add 3 w (drop at l), end, slice-take l at (3 + w) (omega arith))
+
+-- the record of a number that two bytes hold
+short-record : (x y : ℕ) → x < 256 → y < 256 → recordOf (GiveUp (x * 256 + y)) ≡ 10 ∷ 0 ∷ 4 ∷ 0 ∷ 0 ∷ x ∷ y ∷ []
+unfolding recordOf headerOf tagOf fourBytes twoBytes
+short-record x y h g =
+    let none : (x * 256 + y) / 65536 ≡ 0 = omega arith in
+    let all : (x * 256 + y) % 65536 ≡ x * 256 + y = omega arith in
+    let high : (x * 256 + y) / 256 ≡ x = omega arith in
+    let low : (x * 256 + y) % 256 ≡ y = omega arith in
+    rw (none, all, high, low)
+
+-- Req 07: a give-up of length 2 means the number of its two bytes, and 'writing the step read from a length-2 record gives the length-4 one'
+pub short-written : (l : List ℕ) (at n : ℕ) (s : Step) → AllBytes l → recordAt l at ≡ Found.Record s n → isShortAt l at ≡ true
+    → (s ≡ GiveUp (twoAt l (at + 3))) × (n ≡ at + 5) × (recordOf s ≡ 10 ∷ 0 ∷ 4 ∷ 0 ∷ 0 ∷ slice (at + 3) n l)
+unfolding isShortAt twoAt
+short-written l at n s b e short =
+    let w : ℕ = twoAt l (at + 1) in
+    let d : List ℕ = drop (at + 3) l in
+    let p = parts l at n s e in
+    let q = short-give-up (kindOfTag (byteAt l at)) w short in
+    let room : at + 3 + w ≤ length l = p .room in
+    let two : w ≡ 2 = q .1 in
+    let content : take 2 d ≡ byteAt l (at + 3) ∷ byteAt l (at + 3 + 1) ∷ [] =
+    sym (first-bytes d 2 (omega (arith, length-drop (at + 3) l))) ∙
+    (λ j. (getD-drop (at + 3) l 0 0 ∙ ap (byteAt l) (add-zero (at + 3))) j ∷ getD-drop (at + 3) l 1 0 j ∷ []) in
+    let step : s ≡ GiveUp (twoAt l (at + 3)) =
+    sym (p .step) ∙ (λ j. stepOf (q .0 j) (take (two j) d)) ∙ short-read (take 2 d) (ap length content) ∙ ap (λ (c : List ℕ). GiveUp (twoAt c 0)) content in
+    let end : n ≡ at + 5 = omega (arith, p .next) in
+    let behind : n ≡ at + 3 + 2 = omega arith in
+    let bytes : slice (at + 3) n l ≡ byteAt l (at + 3) ∷ byteAt l (at + 3 + 1) ∷ [] =
+    ap (λ (i : ℕ). slice (at + 3) i l) behind ∙ slice-take l (at + 3) 2 (omega arith) ∙ content in
+    (step, end, rw (step, bytes) (short-record (byteAt l (at + 3)) (byteAt l (at + 3 + 1)) (b (at + 3)) (b (at + 3 + 1))))
 
 -- a step that is read has numbers that fit
 pub in-range : (l : List ℕ) (at n : ℕ) (s : Step) → AllBytes l → recordAt l at ≡ Found.Record s n → InRange s
@@ -98,29 +134,26 @@ read-writable l at n s e =
     let p = parts l at n s e in
     rw (← p .step) (writable-read _ (p .below) _ (content-size l at _ _ n s p .1))
 
--- the next position is past the record, and within the input
-pub next-position : (l : List ℕ) (at n : ℕ) (s : Step) → recordAt l at ≡ Found.Record s n → (n ≡ at + length (recordOf s)) × (at < n) × (n ≤ length l)
+-- the next position is past the record, by its own length, and within the input
+pub next-position : (l : List ℕ) (at n : ℕ) (s : Step) → recordAt l at ≡ Found.Record s n → (n ≡ at + 3 + twoAt l (at + 1)) × (at < n) × (n ≤ length l)
 next-position l at n s e =
-    let k : ℕ = kindOfTag (byteAt l at) in
-    let w : ℕ = twoAt l (at + 1) in
     let p = parts l at n s e in
-    let next : at + 3 + w ≡ n = p .next in
-    let room : at + 3 + w ≤ length l = p .room in
-    let q = content-size l at k w n s p in
-    let sized : length (contentOf s) ≡ w = rw (← p .step) (size-read k (p .below) (take w (drop (at + 3) l)) (q .1) ∙ q .0) in
-    let size : length (recordOf s) ≡ 3 + w = record-size s ∙ ap (λ (i : ℕ). 3 + i) sized in
-    (omega arith, omega arith, omega arith)
+    let next : at + 3 + twoAt l (at + 1) ≡ n = p .next in
+    let room : at + 3 + twoAt l (at + 1) ≤ length l = p .room in
+    (sym next, omega arith, omega arith)
 
--- so the step read, written where it was read, leaves the input as it was
-pub rewritten : (l : List ℕ) (at n : ℕ) (s : Step) → AllBytes l → recordAt l at ≡ Found.Record s n → bufferAfter l at s ≡ l
+-- so the step read, written where it was read, leaves the input as it was, but for a give-up of length 2
+pub rewritten : (l : List ℕ) (at n : ℕ) (s : Step) → AllBytes l → recordAt l at ≡ Found.Record s n → isShortAt l at ≡ false → bufferAfter l at s ≡ l
 unfolding bufferAfter hasRoom
-rewritten l at n s b e =
+rewritten l at n s b e long =
+    let w : ℕ = twoAt l (at + 1) in
     let p = next-position l at n s e in
-    let end : at + length (recordOf s) ≡ n = sym (p .0) in
-    let bytes : recordOf s ≡ take (length (recordOf s)) (drop at l) =
-    written-read l at n s b e ∙ ap (λ (i : ℕ). slice at i l) (p .0) ∙ slice-take l at (length (recordOf s)) (omega arith) in
+    let end : n ≡ at + (3 + w) = omega (arith, p .0) in
+    let bytes : recordOf s ≡ take (3 + w) (drop at l) =
+    written-read l at n s b e long ∙ ap (λ (i : ℕ). slice at i l) end ∙ slice-take l at (3 + w) (omega arith) in
+    let size : length (recordOf s) ≡ 3 + w = ap length bytes ∙ length-take-le (3 + w) (drop at l) (omega (arith, length-drop at l, p .2)) in
     rw (read-writable l at n s e, le-leb (at + length (recordOf s)) (length l) (omega arith))
-    (ap (λ (r : List ℕ). take at l ++ r ++ drop (at + length (recordOf s)) l) bytes ∙
+    (ap (λ (r : List ℕ). take at l ++ r ++ drop (at + length (recordOf s)) l) (bytes ∙ ap (λ (i : ℕ). take i (drop at l)) (sym size)) ∙
     rw (← take-add at (length (recordOf s)) l) (take-append-drop (at + length (recordOf s)) l))
 
 -- ---- what a run reads

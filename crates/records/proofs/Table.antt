@@ -1,7 +1,7 @@
--- The table of the steps, row by row: a content has a length of its kind, is read back as it was written, and written back as
+-- The table of the steps, row by row: a content has a length of its kind, is read back as it was written, and, but for a give-up of two bytes, written back as
 -- it was read; and so is a tag.
 use mathlib.Core.Path.{_≡_, refl, sym, ap, _∙_, subst}
-use mathlib.Core.Bool.{Bool, true, false, cond}
+use mathlib.Core.Bool.{Bool, true, false, cond, false≢true}
 use mathlib.Core.List.{List, [], _∷_, _++_}
 use Prim.Native.Nat.{ℕ, zero, suc, _+_, _<_, _≤_}
 use native.Mathlib.Omega.{arith}
@@ -13,9 +13,9 @@ use types.Run.{OneOf, miss}
 use Rattle.protocol.proofs.Step as step
 use Rattle.protocol.specs.declared.Step.{Step}
 use Rattle.protocol.specs.declared.Step.the-variants.{Start, BeginRead, BeginWrite, Deliver, Lose, Repeat, Advance, Replace, Tell, Remove, GiveUp, BeginContext, Join, Copy}
-use Rattle.records.specs.Records.{byteAt, twoAt, fourAt, twoBytes, fourBytes, noStep, kindOfTag, tagOf, contentLength, isLength, kindOf, contentOf, headerOf, recordOf, stepOf, isWritable, AllBytes, InRange}
+use Rattle.records.specs.Records.{byteAt, twoAt, fourAt, twoBytes, fourBytes, noStep, kindOfTag, tagOf, contentLength, isShortGiveUp, isLength, kindOf, contentOf, headerOf, recordOf, operationIn, stepOf, isWritable, AllBytes, InRange}
 use Rattle.records.proofs.Bytes.{both, two-read, four-read, two-written, four-written, all-bytes}
-use Rattle.records.proofs.Contexts.{length-within, objects-length, objects-read, objects-written, objects-naming, objects-kept}
+use Rattle.records.proofs.Contexts.{length-within, objects-length, objects-read, objects-written, objects-naming}
 
 -- ---- a claim of every kind
 
@@ -53,10 +53,15 @@ by-kind P table context k h = go (eqb k 11) refl
 
 -- ---- lengths
 
--- a kind in the table has the length that stands there
-table-length : (k : ℕ) → InTable k → (n : ℕ) → isLength k n ≡ true → n ≡ contentLength k
+-- Req 07: the one length beside the table
+pub short-give-up : (k n : ℕ) → isShortGiveUp k n ≡ true → (k ≡ 10) × (n ≡ 2)
+unfolding isShortGiveUp
+short-give-up k n e = let t = both (eqb k 10) (eqb n 2) e in (eqb-true k 10 (t .0), eqb-true n 2 (t .1))
+
+-- a kind in the table has the length that stands there, but for that
+table-length : (k : ℕ) → InTable k → (n : ℕ) → isLength k n ≡ true → isShortGiveUp k n ≡ false → n ≡ contentLength k
 unfolding isLength
-table-length k h n e = eqb-true n (contentLength k) (rw (ne-eqb k 11 (h .1)) at e)
+table-length k h n e short = eqb-true n (contentLength k) (rw (ne-eqb k 11 (h .1), short) at e)
 
 table-short : (k : ℕ) → InTable k → contentLength k ≤ 16
 unfolding contentLength
@@ -67,8 +72,12 @@ length-bounds : (k : ℕ) → k < 14 → (n : ℕ) → isLength k n ≡ true →
 unfolding isLength
 length-bounds =
     by-kind (λ k. (n : ℕ) → isLength k n ≡ true → n ≤ 16)
-    (λ k h n e. let q = table-length k h n e in let s = table-short k h in omega arith)
+    (λ k h n e. bounded k h n e (isShortGiveUp k n) refl)
     (λ n e. length-within n e .1)
+  where
+    bounded : (k : ℕ) → InTable k → (n : ℕ) → isLength k n ≡ true → (t : Bool) → isShortGiveUp k n ≡ t → n ≤ 16
+    bounded k h n e true short = omega (arith, short-give-up k n short .1)
+    bounded k h n e false short = let q = table-length k h n e short in let s = table-short k h in omega arith
 
 -- ---- writing, then reading
 
@@ -77,7 +86,7 @@ abbrev Row : Step → Type 0
 Row s = (kindOf s < 14) × (isLength (kindOf s) (length (contentOf s)) ≡ true) × (stepOf (kindOf s) (contentOf s) ≡ s)
 
 pub row : (s : Step) → isWritable s ≡ true → Row s
-unfolding twoBytes fourBytes twoAt fourAt contentLength isLength stepOf
+unfolding twoBytes fourBytes twoAt fourAt contentLength isShortGiveUp isLength operationIn stepOf
 row (Start n) w = (lit< tt, refl, refl)
 row (BeginRead object) w = (lit< tt, refl, ap BeginRead (two-read object))
 row (BeginWrite object value) w = (lit< tt, refl, λ j. BeginWrite (two-read object j) (four-read value j))
@@ -88,20 +97,28 @@ row (Advance replica) w = (lit< tt, refl, refl)
 row (Replace number) w = (lit< tt, refl, ap Replace (two-read number))
 row (Tell replica) w = (lit< tt, refl, refl)
 row (Remove replica) w = (lit< tt, refl, refl)
-row (GiveUp operation) w = (lit< tt, refl, ap GiveUp (two-read operation))
+row (GiveUp operation) w = (lit< tt, refl, ap GiveUp (four-read operation))
 row (BeginContext x) w = (lit< tt, objects-length x w, ap BeginContext (objects-read x w))
 row Join w = (lit< tt, refl, refl)
 row Copy w = (lit< tt, refl, refl)
 
 -- ---- reading, then writing
 
--- a content of each shape, read as numbers, is written as it was: one byte, two bytes, two and one, two and four
+-- a content of each shape, read as numbers, is written as it was: one byte, two bytes, four, two and one, two and four
 one-byte : (c : List ℕ) → length c ≡ 1 → AllBytes c → (byteAt c 0 ∷ [] ≡ c) × (byteAt c 0 < 256)
 one-byte c h b = (all-bytes c 1 h, b 0)
 
 two-bytes : (c : List ℕ) → length c ≡ 2 → AllBytes c → (twoBytes (twoAt c 0) ≡ c) × (twoAt c 0 < 65536)
 unfolding twoAt
 two-bytes c h b = let t = two-written (byteAt c 0) (byteAt c 1) (b 0) (b 1) in (t .0 ∙ all-bytes c 2 h, t .1)
+
+four-bytes : (c : List ℕ) → length c ≡ 4 → AllBytes c → (fourBytes (operationIn c) ≡ c) × (operationIn c < 4294967296)
+unfolding twoAt fourAt operationIn isShortGiveUp
+four-bytes c h b =
+    let p = two-written (byteAt c 0) (byteAt c 1) (b 0) (b 1) in
+    let q = two-written (byteAt c 2) (byteAt c 3) (b 2) (b 3) in
+    let f = four-written (twoAt c 0) (twoAt c 2) (p .1) (q .1) in
+    rw h (rw (f .0, p .0, q .0) (all-bytes c 4 h), f .1)
 
 two-and-one : (c : List ℕ) → length c ≡ 3 → AllBytes c → (twoBytes (twoAt c 0) ++ byteAt c 2 ∷ [] ≡ c) × ((twoAt c 0 < 65536) × (byteAt c 2 < 256))
 unfolding twoAt
@@ -128,40 +145,44 @@ table-read : (k : ℕ) → InTable k → TableRead k
 unfolding contentLength stepOf
 table-read k h =
     each 14 (λ k. (k ≡ 11 → ⊥) → TableRead k)
-    ((λ d. one-byte), ((λ d. two-bytes), ((λ d. two-and-four), ((λ d. two-and-one), ((λ d. two-bytes), ((λ d. two-bytes), ((λ d. one-byte), ((λ d. two-bytes), ((λ d. one-byte), ((λ d. one-byte), ((λ d. two-bytes), ((λ d. absurd (d refl)), ((λ d. no-bytes), ((λ d. no-bytes), tt))))))))))))))
+    ((λ d. one-byte), ((λ d. two-bytes), ((λ d. two-and-four), ((λ d. two-and-one), ((λ d. two-bytes), ((λ d. two-bytes), ((λ d. one-byte), ((λ d. two-bytes), ((λ d. one-byte), ((λ d. one-byte), ((λ d. four-bytes), ((λ d. absurd (d refl)), ((λ d. no-bytes), ((λ d. no-bytes), tt))))))))))))))
     k (h .0) (h .1)
 
--- the same for every kind
+-- the same for every kind, but for a give-up of two bytes, whose number fits too
 abbrev ReadAs : ℕ → Type 0
-ReadAs k = (c : List ℕ) → isLength k (length c) ≡ true → AllBytes c → (contentOf (stepOf k c) ≡ c) × InRange (stepOf k c)
+ReadAs k =
+    (c : List ℕ) → isLength k (length c) ≡ true → AllBytes c → (isShortGiveUp k (length c) ≡ false → contentOf (stepOf k c) ≡ c) × InRange (stepOf k c)
+
+-- Req 07: two bytes 'mean the same number'
+pub short-read : (c : List ℕ) → length c ≡ 2 → stepOf 10 c ≡ GiveUp (twoAt c 0)
+unfolding stepOf operationIn isShortGiveUp
+short-read c h = rw h refl
+
+short-fits : (c : List ℕ) → length c ≡ 2 → AllBytes c → InRange (stepOf 10 c)
+short-fits c h b = rw (short-read c h) (omega (arith, two-bytes c h b .1))
+
+table-read-as : (k : ℕ) → InTable k → ReadAs k
+table-read-as k h c e b = go (isShortGiveUp k (length c)) refl
+  where
+    go : (t : Bool) → isShortGiveUp k (length c) ≡ t → (t ≡ false → contentOf (stepOf k c) ≡ c) × InRange (stepOf k c)
+    go true short = let s = short-give-up k (length c) short in (λ no. absurd (false≢true (sym no)), subst (λ (i : ℕ). InRange (stepOf i c)) (sym (s .0)) (short-fits c (s .1) b))
+    go false short = let t = table-read k h c (table-length k h (length c) e short) b in (λ _. t .0, t .1)
 
 pub read-as : (k : ℕ) → k < 14 → ReadAs k
 unfolding isLength stepOf
-read-as = by-kind ReadAs (λ k h c e. table-read k h c (table-length k h (length c) e)) objects-written
+read-as = by-kind ReadAs (λ k h c e b. let t = table-read-as k h c e b in (λ no. t .0 no, t .1)) (λ c e b. let t = objects-written c e b in (λ _. t .0, t .1))
 
 pub kind-read : (k : ℕ) → k < 14 → (c : List ℕ) → kindOf (stepOf k c) ≡ k
 unfolding stepOf
 kind-read k h c = eqb-true _ _ (tested 14 (λ k. eqb (kindOf (stepOf k c)) k) refl k h)
 
--- whatever the bytes are, the step can be written, and has as many
+-- whatever the bytes are, the step can be written
 pub writable-read : (k : ℕ) → k < 14 → (c : List ℕ) → isLength k (length c) ≡ true → isWritable (stepOf k c) ≡ true
 unfolding isLength stepOf
 writable-read =
     by-kind (λ k. (c : List ℕ) → isLength k (length c) ≡ true → isWritable (stepOf k c) ≡ true)
     (λ k h c e. rw (ne-eqb k 11 (h .1)) at (tested 14 (λ k. cond (eqb k 11) true (isWritable (stepOf k c))) refl k (h .0)))
     objects-naming
-
-pub size-read : (k : ℕ) → k < 14 → (c : List ℕ) → isLength k (length c) ≡ true → length (contentOf (stepOf k c)) ≡ length c
-unfolding isLength stepOf
-size-read =
-    by-kind (λ k. (c : List ℕ) → isLength k (length c) ≡ true → length (contentOf (stepOf k c)) ≡ length c)
-    (λ k h c e.
-    let below : k < 14 = h .0 in
-    let s : Step = stepOf k c in
-    let size = row s (writable-read k below c e) .1 in
-    table-length k h (length (contentOf s)) (ap (λ (i : ℕ). isLength i (length (contentOf s))) (sym (kind-read k below c)) ∙ size) ∙
-    sym (table-length k h (length c) e))
-    objects-kept
 
 -- ---- tags
 

@@ -40,6 +40,10 @@ fourAt l i = twoAt l i * 65536 + twoAt l (i + 2)
 abbrev pub contextKind : ℕ
 contextKind = 11
 
+-- giving up an operation
+abbrev pub giveUpKind : ℕ
+giveUpKind = 10
+
 -- stands for no step
 abbrev pub noStep : ℕ
 noStep = 14
@@ -52,9 +56,9 @@ kindOfTag t = cond (eqb t 32) 0 (cond (leb 1 t) (cond (leb t 13) t noStep) noSte
 unfoldable pub tagOf : ℕ → ℕ
 tagOf k = cond (leb 1 k) (cond (leb k 13) k 32) 32
 
--- the column 'Length'; that of a read of a whole context stands below, and Req 04's two have none
+-- the column 'Length', as it is written; that of a read of a whole context stands below, and Req 04's two have none. Req 07: 'Tag 10 is written with length 4'
 abbrev pub lengths : List ℕ
-lengths = 1 ∷ 2 ∷ 6 ∷ 3 ∷ 2 ∷ 2 ∷ 1 ∷ 2 ∷ 1 ∷ 1 ∷ 2 ∷ 0 ∷ 0 ∷ 0 ∷ []
+lengths = 1 ∷ 2 ∷ 6 ∷ 3 ∷ 2 ∷ 2 ∷ 1 ∷ 2 ∷ 1 ∷ 1 ∷ 4 ∷ 0 ∷ 0 ∷ 0 ∷ []
 
 unfoldable pub contentLength : ℕ → ℕ
 contentLength k = getD lengths k 0
@@ -63,9 +67,13 @@ contentLength k = getD lengths k 0
 unfoldable pub isContextLength : ℕ → Bool
 isContextLength n = cond (eqb (n % 2) 0) (isCount (n / 2)) false
 
+-- Req 07: 'Files with length 2 are still read': the second length of tag 10, which is never written
+unfoldable pub isShortGiveUp : ℕ → ℕ → Bool
+isShortGiveUp k n = cond (eqb k giveUpKind) (eqb n 2) false
+
 -- the content of a record of this kind can have this length
 unfoldable pub isLength : ℕ → ℕ → Bool
-isLength k n = cond (eqb k contextKind) (isContextLength n) (eqb n (contentLength k))
+isLength k n = cond (eqb k contextKind) (isContextLength n) (cond (isShortGiveUp k n) true (eqb n (contentLength k)))
 
 -- the kind of each step
 abbrev pub kindOf : Step → ℕ
@@ -79,7 +87,7 @@ kindOf (Advance replica) = 6
 kindOf (Replace number) = 7
 kindOf (Tell replica) = 8
 kindOf (Remove replica) = 9
-kindOf (GiveUp operation) = 10
+kindOf (GiveUp operation) = giveUpKind
 kindOf (BeginContext objects) = contextKind
 kindOf Join = 12
 kindOf Copy = 13
@@ -108,7 +116,7 @@ contentOf (Advance replica) = replica ∷ []
 contentOf (Replace number) = twoBytes number
 contentOf (Tell replica) = replica ∷ []
 contentOf (Remove replica) = replica ∷ []
-contentOf (GiveUp operation) = twoBytes operation
+contentOf (GiveUp operation) = fourBytes operation
 contentOf (BeginContext x) = objectBytes x
 contentOf Join = []
 contentOf Copy = []
@@ -137,7 +145,11 @@ objectsIn c = record {
   eighth = twoAt c 14;
 }
 
--- the step of a kind, its content being read as it is written
+-- Req 07: the operation to give up, in two bytes or in four: 'mean the same number'
+unfoldable pub operationIn : List ℕ → ℕ
+operationIn c = cond (isShortGiveUp giveUpKind (length c)) (twoAt c 0) (fourAt c 0)
+
+-- the step of a kind with this content
 unfoldable pub stepOf : ℕ → List ℕ → Step
 stepOf k c =
     cond (eqb k 0) (Start (byteAt c 0))
@@ -150,7 +162,7 @@ stepOf k c =
     (cond (eqb k 7) (Replace (twoAt c 0))
     (cond (eqb k 8) (Tell (byteAt c 0))
     (cond (eqb k 9) (Remove (byteAt c 0))
-    (cond (eqb k 10) (GiveUp (twoAt c 0))
+    (cond (eqb k 10) (GiveUp (operationIn c))
     (cond (eqb k 12) Join (cond (eqb k 13) Copy (BeginContext (objectsIn c))))))))))))))
 
 -- the record of a kind whose tag is at the position; refusal 1: 'wrong length, input ends early'
@@ -168,6 +180,10 @@ recordAt l at =
     cond (leb (at + 3) (length l))
     (cond (eqb (kindOfTag (byteAt l at)) noStep) Found.Malformed (recordOfKind (kindOfTag (byteAt l at)) l at))
     Found.Malformed
+
+-- Req 07: the record at a position is a give-up of length 2
+unfoldable pub isShortAt : List ℕ → ℕ → Bool
+isShortAt l at = isShortGiveUp (kindOfTag (byteAt l at)) (twoAt l (at + 1))
 
 -- the step is a start
 unfoldable pub isStart : Step → Bool
@@ -248,7 +264,7 @@ InRange (Advance replica) = replica < 256
 InRange (Replace number) = number < 65536
 InRange (Tell replica) = replica < 256
 InRange (Remove replica) = replica < 256
-InRange (GiveUp operation) = operation < 65536
+InRange (GiveUp operation) = operation < 4294967296
 InRange (BeginContext x) =
     (x .first < 65536) × (x .second < 65536) × (x .third < 65536) × (x .fourth < 65536) × (x .fifth < 65536) × (x .sixth < 65536) × (x .seventh < 65536) × (x .eighth < 65536)
 InRange Join = Unit {0}

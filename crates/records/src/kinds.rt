@@ -1,6 +1,6 @@
 // The table of document 01, 'Steps and their records', by kinds of step: 0 is the start, and 1 to 13 have their tags' numbers.
 ghost use mathlib.Core.Path.{_≡_};
-ghost use Rattle.records.specs.Records.{kindOfTag, tagOf, contentLength, isContextLength, isLength, kindOf};
+ghost use Rattle.records.specs.Records.{kindOfTag, tagOf, contentLength, isContextLength, isShortGiveUp, isLength, kindOf};
 use protocol::Step;
 
 // The kinds of step.
@@ -9,11 +9,14 @@ const KINDS: usize = 14;
 // Req 02: a read of a whole context.
 pub const CONTEXT_KIND: usize = 11;
 
+// Giving up an operation.
+pub const GIVE_UP_KIND: usize = 10;
+
 // Stands for no step.
 pub const NO_STEP: usize = 14;
 
-// The length of the content for each kind of step, for reader and writer; a read of a whole context has a rule of its own.
-const LENGTHS: [u16; KINDS] = [1, 2, 6, 3, 2, 2, 1, 2, 1, 1, 2, 0, 0, 0];
+// The length of the content for each kind of step, as it is written; a read of a whole context has a rule of its own.
+const LENGTHS: [u16; KINDS] = [1, 2, 6, 3, 2, 2, 1, 2, 1, 1, 4, 0, 0, 0];
 
 pub fn content_length(kind: usize) -> u16
     ensures { λ r. ⌜ r ≡ contentLength kind ⌝ }
@@ -32,12 +35,25 @@ fn is_context_length(n: u16) -> bool
     }
 }
 
+// Req 07: whether this is a give-up of two bytes, which is read and never written.
+pub fn is_short_give_up(kind: usize, n: u16) -> bool
+    ensures { λ r. ⌜ r ≡ isShortGiveUp kind n ⌝ }
+{
+    if kind == GIVE_UP_KIND {
+        return n == 2;
+    }
+    false
+}
+
 // Whether the content of a record of this kind can have this length; another is refusal 1.
 pub fn is_length(kind: usize, n: u16) -> bool
     ensures { λ r. ⌜ r ≡ isLength kind n ⌝ }
 {
     if kind == CONTEXT_KIND {
         return is_context_length(n);
+    }
+    if is_short_give_up(kind, n) {
+        return true;
     }
     n == content_length(kind)
 }
@@ -77,7 +93,7 @@ pub fn kind_of(step: Step) -> usize
         Step::Replace(_) => 7,
         Step::Tell(_) => 8,
         Step::Remove(_) => 9,
-        Step::GiveUp(_) => 10,
+        Step::GiveUp(_) => GIVE_UP_KIND,
         Step::BeginContext(_) => CONTEXT_KIND,
         Step::Join => 12,
         Step::Copy => 13,

@@ -7,9 +7,11 @@ mod kinds;
 mod writer;
 
 pub use kinds::CONTEXT_KIND;
+pub use kinds::GIVE_UP_KIND;
 pub use kinds::NO_STEP;
 pub use kinds::content_length;
 pub use kinds::is_length;
+pub use kinds::is_short_give_up;
 pub use kinds::kind_of;
 pub use kinds::kind_of_tag;
 use protocol::Step;

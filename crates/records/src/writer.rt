@@ -65,6 +65,13 @@ fn two_bytes(kind: usize, a: u16) -> [u8; LONGEST]
     with_two(header(kind, content_length(kind)), 3, a)
 }
 
+fn four_bytes(kind: usize, a: u32) -> [u8; LONGEST]
+    ensures { λ r. ⌜ r ≡ headerOf kind (contentLength kind) ++ fourBytes a ++ replicate 12 0 ⌝ }
+{
+    let bytes = two_bytes(kind, (a / 65536) as u16);
+    with_two(bytes, 5, (a % 65536) as u16)
+}
+
 fn two_and_one(kind: usize, a: u16, b: u8) -> [u8; LONGEST]
     ensures { λ r. ⌜ r ≡ headerOf kind (contentLength kind) ++ twoBytes a ++ b ∷ replicate 13 0 ⌝ }
 {
@@ -119,7 +126,7 @@ fn record_of(step: Step) -> [u8; LONGEST]
         Step::Replace(number) => two_bytes(kind, number),
         Step::Tell(replica) => one_byte(kind, replica),
         Step::Remove(replica) => one_byte(kind, replica),
-        Step::GiveUp(operation) => two_bytes(kind, operation),
+        Step::GiveUp(operation) => four_bytes(kind, operation),
         Step::BeginContext(x) => objects(x),
         Step::Join => header(kind, 0),
         Step::Copy => header(kind, 0),

@@ -5,6 +5,7 @@ ghost use Rattle.replicas.specs.Replicas.{taking};
 ghost use Rattle.joins.specs.{handingOn};
 ghost use Rattle.protocol.specs.Delivery.{answering, stampedWrite, directRead, freshness, normalRead, reply};
 use limits::Freshness;
+use limits::HeldFreshness;
 use limits::Number;
 use limits::Object;
 use limits::Operation;
@@ -28,7 +29,7 @@ fn answers(at: usize, w: Write) -> Edit
 {
     decisions::take_out_add_two(
         at,
-        messages::packet_of(Message::Reply(w.operation, w.value, 0, NONE)),
+        messages::packet_of(Message::Reply(w.operation, w.value, 0, NONE as HeldFreshness)),
         messages::packet_of(Message::Completion(w.object, w.stamp)),
     )
 }
@@ -90,22 +91,22 @@ pub fn direct_read(
     let q = chain::member(store, place);
     if replicas::answers(store, q, x, number, t) {
         let v = store::read_value(store, q, x);
-        return decisions::pass_on(at, Message::Reply(o, v, 0, NONE));
+        return decisions::pass_on(at, Message::Reply(o, v, 0, NONE as HeldFreshness));
     }
     decisions::pass_on(at, Message::NormalRead(chain::tail_number(store), o, x, 0))
 }
 
 // What a read that carries the stamp of a pending write says of it, from the stamp of the value that it is answered with.
-fn compare(stamp: Stamp, carried: Stamp) -> Freshness
+fn compare(stamp: Stamp, carried: Stamp) -> HeldFreshness
     ensures { λ r. ⌜ r ≡ freshness stamp carried ⌝ }
 {
     if carried == 0 {
-        return NONE;
+        return NONE as HeldFreshness;
     }
     if stamp::above(carried, stamp) {
-        return OLD;
+        return OLD as HeldFreshness;
     }
-    NEW
+    NEW as HeldFreshness
 }
 
 // The stamp of the value that replica r answers with: that of the object in its own table.
@@ -147,7 +148,7 @@ pub fn finish(
     at: usize,
     o: Operation,
     v: Value,
-    f: Freshness,
+    f: HeldFreshness,
 ) -> Decision
     ensures { λ d. ⌜ (d ≡ reply (now (opens .entry)) at o v f .decision)
         × (now (opens .exit) ≡ reply (now (opens .entry)) at o v f .opens) ⌝ }
@@ -156,7 +157,7 @@ pub fn finish(
         return decisions::drop_packet(at);
     }
     Decision {
-        answer: Answer::Finished(o, v, f),
+        answer: Answer::Finished(o, v, f as Freshness),
         edit: decisions::take_out(at),
     }
 }

@@ -17,8 +17,8 @@ tableFor s r o =
 unfoldable pub valueOf : List ℕ → ℕ → ℕ → ℕ
 valueOf s r o = cond (eqb (tableFor s r o) 0) 0 (valueAt s (tableFor s r o) o)
 
-unfoldable pub stampIn : List ℕ → ℕ → ℕ → ℕ
-stampIn s r o = cond (eqb (tableFor s r o) 0) 0 (stampAt s (tableFor s r o) o)
+unfoldable pub stampHeld : List ℕ → ℕ → ℕ → ℕ
+stampHeld s r o = cond (eqb (tableFor s r o) 0) 0 (stampAt s (tableFor s r o) o)
 
 -- the newcomer's number and the copies that it has, 0 where none joins
 unfoldable pub newcomerOf : List ℕ → ℕ

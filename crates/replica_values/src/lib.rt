@@ -1,9 +1,10 @@
 // What a replica holds, and which replicas there are.
 ghost use mathlib.Core.Path.{_≡_};
 ghost use Rattle.store.specs.{liveCount};
-ghost use Rattle.replica_values.specs.{tableFor, valueOf, stampIn, newcomerOf, copiesOf, chainOf};
+ghost use Rattle.replica_values.specs.{tableFor, valueOf, stampHeld, newcomerOf, copiesOf, chainOf};
 use limits::OBJECTS;
 use limits::Replica;
+use limits::Stamp;
 use limits::Table;
 use store::CELLS;
 
@@ -41,9 +42,9 @@ pub fn value(store: &[u32; CELLS], replica: Replica, object: u32) -> u32
     store::read_value(store, t, object)
 }
 
-// Its stamp: the switch number times 65,536, and the counter.
-pub fn stamp(store: &[u32; CELLS], replica: Replica, object: u32) -> u32
-    ensures { λ r. ⌜ r ≡ stampIn (now (store .entry)) replica object ⌝ }
+// Its stamp: the switch number times 4,294,967,296, and the counter.
+pub fn stamp(store: &[u32; CELLS], replica: Replica, object: u32) -> Stamp
+    ensures { λ r. ⌜ r ≡ stampHeld (now (store .entry)) replica object ⌝ }
 {
     let t = table(store, replica, object);
     if t == 0 {

@@ -11,7 +11,8 @@ use Rattle.limits.specs as limits
 use Rattle.lists.specs.{moves}
 use Rattle.lists.proofs.Closing.{length-moves}
 use Rattle.lists.proofs.Places.{getD-moves, getD-moves-other}
-use Rattle.store.specs.{lastNumberCell, joinCell, storeCells, valueCell, stampCell, liveCount, orderAt, rowOf, highestOf, permittedBy, appliedBy, valueAt, stampAt}
+use Rattle.stamp.specs.Stamps.{stampOf, stampIn}
+use Rattle.store.specs.{highestCell, permitCell, appliedCell, lastNumberCell, joinCell, storeCells, valueCell, stampCell, liveCount, orderAt, rowOf, highestOf, permittedBy, appliedBy, valueAt, stampAt}
 use Rattle.chain.specs.{chainPlace, isLive, memberAt, removed, emptyCells, numbered, emptyStore}
 use Rattle.chain.proofs.Members.{count-most, member-order, member-past, live-place, place-below}
 use Rattle.replicas.proofs.Cells.{SizedStore, row-below, within, value-from, value-below, stamp-is}
@@ -111,11 +112,11 @@ sized-numbered s (suc k) h = simp length-set (sized-numbered s k h)
 
 -- the cells of the order and of the permits
 module _ (s : List ℕ) (z : SizedStore s) where
-  numbered-other : (k i : ℕ) → ((j : ℕ) → j < k → i ≡ 1 + j → ⊥) → ((j : ℕ) → j < k → i ≡ 17 + j → ⊥) → getD (numbered s k) i 0 ≡ getD s i 0
+  numbered-other : (k i : ℕ) → ((j : ℕ) → j < k → i ≡ 1 + j → ⊥) → ((j : ℕ) → j < k → i ≡ permitCell j → ⊥) → getD (numbered s k) i 0 ≡ getD s i 0
   unfolding numbered
   numbered-other zero i a b = refl
   numbered-other (suc k) i a b =
-      getD-set-other (set (numbered s k) (1 + k) (257 * (k + 1))) (17 + k) i 1 0 (b k (omega arith)) ∙
+      getD-set-other (set (numbered s k) (1 + k) (257 * (k + 1))) (permitCell k) i 1 0 (b k (omega arith)) ∙
       getD-set-other (numbered s k) (1 + k) i (257 * (k + 1)) 0 (a k (omega arith)) ∙
       numbered-other k i (λ j h. a j (omega arith)) (λ j h. b j (omega arith))
 
@@ -123,7 +124,7 @@ module _ (s : List ℕ) (z : SizedStore s) where
   unfolding numbered
   numbered-order zero j m h = absurd (omega arith)
   numbered-order (suc k) j m h =
-      getD-set-other (set (numbered s k) (1 + k) (257 * (k + 1))) (17 + k) (1 + j) 1 0 (λ e. omega arith) ∙ at (ℕ-discrete j k) (numbered-order k j (omega arith))
+      getD-set-other (set (numbered s k) (1 + k) (257 * (k + 1))) (permitCell k) (1 + j) 1 0 (λ e. omega arith) ∙ at (ℕ-discrete j k) (numbered-order k j (omega arith))
     where
       at : Dec (j ≡ k) → (j < k → getD (numbered s k) (1 + j) 0 ≡ 257 * (j + 1)) → getD (set (numbered s k) (1 + k) (257 * (k + 1))) (1 + j) 0 ≡ 257 * (j + 1)
       at (yes e) rest =
@@ -132,19 +133,19 @@ module _ (s : List ℕ) (z : SizedStore s) where
           ap (λ (i : ℕ). 257 * (i + 1)) (sym e)
       at (no n) rest = getD-set-other (numbered s k) (1 + k) (1 + j) (257 * (k + 1)) 0 (λ e. n (omega arith)) ∙ rest (omega (arith, n))
 
-  numbered-permit : (k j : ℕ) → k ≤ 8 → j < k → getD (numbered s k) (17 + j) 0 ≡ 1
+  numbered-permit : (k j : ℕ) → k ≤ 8 → j < k → getD (numbered s k) (permitCell j) 0 ≡ 1
   unfolding numbered
   numbered-permit zero j m h = absurd (omega arith)
   numbered-permit (suc k) j m h = at (ℕ-discrete j k) (numbered-permit k j (omega arith))
     where
-      at : Dec (j ≡ k) → (j < k → getD (numbered s k) (17 + j) 0 ≡ 1) → getD (set (set (numbered s k) (1 + k) (257 * (k + 1))) (17 + k) 1) (17 + j) 0 ≡ 1
+      at : Dec (j ≡ k) → (j < k → getD (numbered s k) (permitCell j) 0 ≡ 1) → getD (set (set (numbered s k) (1 + k) (257 * (k + 1))) (permitCell k) 1) (permitCell j) 0 ≡ 1
       at (yes e) rest =
-          ap (λ (i : ℕ). getD (set (set (numbered s k) (1 + k) (257 * (k + 1))) (17 + k) 1) (17 + i) 0) e ∙
-          getD-set-same (set (numbered s k) (1 + k) (257 * (k + 1))) (17 + k) 1 0
-          (within (set (numbered s k) (1 + k) (257 * (k + 1))) (17 + k) (simp length-set (sized-numbered s k z)) (omega arith))
+          ap (λ (i : ℕ). getD (set (set (numbered s k) (1 + k) (257 * (k + 1))) (permitCell k) 1) (permitCell i) 0) e ∙
+          getD-set-same (set (numbered s k) (1 + k) (257 * (k + 1))) (permitCell k) 1 0
+          (within (set (numbered s k) (1 + k) (257 * (k + 1))) (permitCell k) (simp length-set (sized-numbered s k z)) (omega arith))
       at (no n) rest =
-          getD-set-other (set (numbered s k) (1 + k) (257 * (k + 1))) (17 + k) (17 + j) 1 0 (λ e. n (omega arith)) ∙
-          getD-set-other (numbered s k) (1 + k) (17 + j) (257 * (k + 1)) 0 (λ e. omega arith) ∙
+          getD-set-other (set (numbered s k) (1 + k) (257 * (k + 1))) (permitCell k) (permitCell j) 1 0 (λ e. n (omega arith)) ∙
+          getD-set-other (numbered s k) (1 + k) (permitCell j) (257 * (k + 1)) 0 (λ e. omega arith) ∙
           rest (omega (arith, n))
 
 pub sized-empty : (n : ℕ) → SizedStore (emptyStore n)
@@ -160,9 +161,18 @@ module _ (n : ℕ) where
   behind-live i h d = getD-set-other counted lastNumberCell i n 0 d ∙ getD-set-other (numbered emptyCells 8) 0 i n 0 (λ e. omega arith)
 
   -- a cell that is in neither the order nor the permits
-  blank-cell : (i : ℕ) → 9 ≤ i → (i ≡ lastNumberCell → ⊥) → ((j : ℕ) → j < 8 → i ≡ 17 + j → ⊥) → getD (emptyStore n) i 0 ≡ 0
+  blank-cell : (i : ℕ) → 9 ≤ i → (i ≡ lastNumberCell → ⊥) → ((j : ℕ) → j < 8 → i ≡ permitCell j → ⊥) → getD (emptyStore n) i 0 ≡ 0
   blank-cell i h d b =
       behind-live i (omega arith) d ∙ numbered-other emptyCells sized-cells 8 i (λ j c e. omega arith) b ∙ empty-cell i
+
+  -- two such cells are the stamp (0,0)
+  blank-stamp : (i : ℕ) → 9 ≤ i → ((k : ℕ) → i ≤ k → k ≤ i + 1 → k ≡ lastNumberCell → ⊥) → ((k : ℕ) → i ≤ k → k ≤ i + 1 → (j : ℕ) → j < 8 → k ≡ permitCell j → ⊥) → stampIn (emptyStore n) i ≡ 0
+  unfolding stampIn stampOf
+  blank-stamp i h d b =
+      rw (
+        blank-cell i h (d i (omega arith) (omega arith)) (b i (omega arith) (omega arith)),
+        blank-cell (i + 1) (omega (arith, h)) (d (i + 1) (omega arith) (omega arith)) (b (i + 1) (omega arith) (omega arith)),
+      )
 
   pub count-empty : n ≤ limits.replicas → liveCount (emptyStore n) ≡ n
   unfolding liveCount emptyStore
@@ -191,15 +201,15 @@ module _ (n : ℕ) where
 
   pub highest-empty : (r : ℕ) → highestOf (emptyStore n) r ≡ 0
   unfolding highestOf
-  highest-empty r = blank-cell (9 + rowOf r) (omega arith) (λ e. omega (arith, row-below r)) (λ j h e. omega (arith, row-below r))
+  highest-empty r = blank-stamp (highestCell (rowOf r)) (omega arith) (λ i a b e. omega (arith, e, b, row-below r)) (λ i a b j h e. omega (arith, e, b, row-below r))
 
   pub permitted-empty : (r : ℕ) → permittedBy (emptyStore n) r ≡ 1
   unfolding permittedBy
-  permitted-empty r = behind-live (17 + rowOf r) (omega arith) (λ e. omega (arith, row-below r)) ∙ numbered-permit emptyCells sized-cells 8 (rowOf r) (omega arith) (row-below r)
+  permitted-empty r = behind-live (permitCell (rowOf r)) (omega arith) (λ e. omega (arith, row-below r)) ∙ numbered-permit emptyCells sized-cells 8 (rowOf r) (omega arith) (row-below r)
 
   pub applied-empty : (r : ℕ) → appliedBy (emptyStore n) r ≡ 0
   unfolding appliedBy
-  applied-empty r = blank-cell (25 + rowOf r) (omega arith) (λ e. omega (arith, row-below r)) (λ j h e. omega arith)
+  applied-empty r = blank-cell (appliedCell (rowOf r)) (omega arith) (λ e. omega (arith, row-below r)) (λ j h e. omega arith)
 
   pub value-empty : (r o : ℕ) → valueAt (emptyStore n) r o ≡ 0
   unfolding valueAt
@@ -207,4 +217,5 @@ module _ (n : ℕ) where
 
   pub stamp-empty : (r o : ℕ) → stampAt (emptyStore n) r o ≡ 0
   unfolding stampAt
-  stamp-empty r o = blank-cell (stampCell (rowOf r) o) (omega (arith, stamp-is r o)) (λ e. omega (arith, stamp-is r o, value-below r o)) (λ j h e. omega (arith, stamp-is r o))
+  stamp-empty r o =
+      blank-stamp (stampCell (rowOf r) o) (omega (arith, stamp-is r o)) (λ i a b e. omega (arith, e, b, stamp-is r o, value-below r o)) (λ i a b j h e. omega (arith, e, a, h, stamp-is r o))

@@ -16,7 +16,6 @@ use Rattle.line_lengths.specs.Lines.{noLine}
 use Rattle.records.specs.declared.Next.{Next}
 use Rattle.records.specs.Records.{nextAt}
 use Rattle.records.proofs.Round.{next-record, next-position}
-use Rattle.records.proofs.Table.{record-long}
 use Rattle.turns.specs.Turns.{Standing, Printed, continued, readNext, nextPrinted, stopped, startedWith, firstRead, firstPrinted}
 use Rattle.runs.specs.Runs.{linesFrom, joined}
 
@@ -32,7 +31,7 @@ read-ahead input over at n x = go over
   where
     go : (t : Bool) → cond t Next.End (nextAt input at) ≡ Next.Record x n → (at + 3 ≤ n) × (n ≤ length input)
     go true e = let z : _≡_ {A = ℕ} 0 1 = cc in absurd (omega arith)
-    go false e = let p = next-position input at n x (next-record input at n x e .0) in (omega (arith, p .0, record-long x), p .2)
+    go false e = let p = next-position input at n x (next-record input at n x e .0) in (omega (arith, p .0), p .2)
 
 -- once over, a run stays so and prints nothing
 pub over-next : (input : List ℕ) (u : Standing) → u .over ≡ true → nextPrinted input u ≡ continued u Next.End

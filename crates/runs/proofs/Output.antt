@@ -32,7 +32,7 @@ use Rattle.runs.proofs.Whole.{printed-short, next-short, begins-short}
 
 -- the last place of a piece that has room for the longest line
 abbrev lastLine : ℕ
-lastLine = 65399
+lastLine = 65389
 
 -- ---- bytes at a place
 
@@ -127,7 +127,7 @@ print-holds input out switch store opens row buffer ran blanks stands n b e f =
     let line = firstPrinted untouched input .line in
     let rest = linesFrom (length input) input (firstPrinted untouched input .then) in
     let more : length (line ++ joined rest) ≡ length line + length (joined rest) = length-append line (joined rest) in
-    let short : length (line ++ joined rest) ≤ 3014656 = printed-short input in
+    let short : length (line ++ joined rest) ≤ 3276800 = printed-short input in
     let place : placeAfter 0 (length line) ≡ 0 + length line = place-is 0 (length line) (omega (arith, more, short)) in
     let held = turned-holds (length input) input (firstPrinted untouched input .then) (putIn out 0 line) (0 + length line) (omega (arith, more, short)) in
     let same : turned (ran .run .left) lastPlace input (standsAs (ran .run) switch store opens row) buffer (ran .used) ≡ turned (length input) lastPlace input (firstPrinted untouched input .then) (putIn out 0 line) (0 + length line) =

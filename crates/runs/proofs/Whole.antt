@@ -1,4 +1,4 @@
--- How long the output is: 3,014,656 bytes are room for that of any input.
+-- How long the output is: 3,276,800 bytes are room for that of any input.
 use mathlib.Core.Path.{_≡_, refl}
 use mathlib.Core.Logic.{inl, inr}
 use mathlib.Core.Bool.{Bool, true, false, cond}
@@ -61,15 +61,15 @@ lines-short (suc k) input u within = go (readNext input (u .over) (u .at)) refl 
         rw (over-prints k input (continued u Next.Malformed .then) refl, append-nil (continued u Next.Malformed .line))
         (omega (arith, line-short u Next.Malformed))
 
--- 3,014,656 BYTES ARE ROOM FOR THE OUTPUT OF ANY INPUT
-pub printed-short : (input : List ℕ) → length (printed input) ≤ 3014656
+-- 3,276,800 BYTES ARE ROOM FOR THE OUTPUT OF ANY INPUT
+pub printed-short : (input : List ℕ) → length (printed input) ≤ 3276800
 unfolding printed linesOn joined firstPrinted stopped
 printed-short input = go (ltb limits.input (length input)) refl
   where
     at-first : Bool → Printed
     at-first t = cond t (stopped untouched (noLine 0 (refusalNumber InputTooLong))) (firstRead untouched (nextAt input 0))
 
-    go : (t : Bool) → ltb limits.input (length input) ≡ t → length (at-first t .line ++ joined (linesFrom (length input) input (at-first t .then))) ≤ 3014656
+    go : (t : Bool) → ltb limits.input (length input) ≡ t → length (at-first t .line ++ joined (linesFrom (length input) input (at-first t .then))) ≤ 3276800
     go true e = rw (over-prints (length input) input (at-first true .then) refl) (simp length-append (omega (arith, refusal-length 0 (refusalNumber InputTooLong))))
     go false e = elim (read-ahead-first untouched input (nextAt input 0) refl) [
       | inl o ↦ rw (over-prints (length input) input (at-first false .then) o) (simp length-append (omega (arith, first-short untouched (nextAt input 0))))

@@ -18,7 +18,7 @@ use waiting::Packet;
 // Bytes of a piece of the output, and the last place of it that has room for the longest line.
 pub const PIECE: usize = 65536;
 
-const LAST_LINE: usize = 65399;
+const LAST_LINE: usize = 65389;
 
 // How a run stands after some records, the place after their lines, and the places of the packets.
 pub struct Piece {

@@ -5,6 +5,7 @@ ghost use Rattle.lines.specs.Text.{putIn};
 ghost use Rattle.session_lines.specs.{contextFrom, answerFrom, lineFor, putBytes};
 use contexts::Context;
 use limits::CONTEXT_LEAST;
+use limits::RecordNumber;
 use protocol::Answer;
 
 fn context_from(count: u32, values: &[u32; 8]) -> Context
@@ -37,7 +38,7 @@ fn answer_from(operation: u32, count: u32, values: &[u32; 8], freshness: u32) ->
 
 // The line at the start of the buffer, which is unchanged where it is too short. How many bytes the line has.
 fn put_line(
-    number: u32,
+    number: RecordNumber,
     refusal: u8,
     operation: u32,
     count: u32,
@@ -61,7 +62,7 @@ fn put_line(
 // The line of record `number`, from the fields of its session, at the start of the buffer. How many bytes it has: 0 where the buffer is too short, and
 // unchanged.
 pub fn line(
-    number: u32,
+    number: RecordNumber,
     refusal: u8,
     operation: u32,
     count: u32,

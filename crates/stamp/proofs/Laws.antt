@@ -6,37 +6,42 @@ use Prim.Native.Nat.{ℕ, _+_, _/_, _%_, _≤_, _<_, max}
 use native.Mathlib.Omega.{arith}
 use lib.Dec.{eqb, ltb}
 use borrow.Author.Tests.{eqb-true, eqb-false, ltb-true, ltb-false, lt-ltb, le-ltb}
+use Rattle.limits.specs.{counters}
 use Rattle.stamp.specs.Stamps.{stampOf, numberOf, counterOf, isAbove, largerOf}
 
 -- the two parts of a stamp
-pub number-of-stamp : (n c : ℕ) → c < 65536 → numberOf (stampOf n c) ≡ n
+pub number-of-stamp : (n c : ℕ) → c < counters → numberOf (stampOf n c) ≡ n
 unfolding numberOf stampOf
 number-of-stamp n c h = omega arith
 
-pub counter-of-stamp : (n c : ℕ) → c < 65536 → counterOf (stampOf n c) ≡ c
+pub counter-of-stamp : (n c : ℕ) → c < counters → counterOf (stampOf n c) ≡ c
 unfolding counterOf stampOf
 counter-of-stamp n c h = omega arith
+
+pub stamp-of-parts : (t : ℕ) → stampOf (numberOf t) (counterOf t) ≡ t
+unfolding stampOf numberOf counterOf
+stamp-of-parts t = omega arith
 
 -- the paper's order is the order of the numbers
 pub above-is : (a b : ℕ) → isAbove a b ≡ ltb b a
 unfolding isAbove numberOf counterOf
-above-is a b = go (eqb (a / 65536) (b / 65536)) refl
+above-is a b = go (eqb (a / counters) (b / counters)) refl
   where
-    lower : eqb (a / 65536) (b / 65536) ≡ true → ltb (b % 65536) (a % 65536) ≡ ltb b a
+    lower : eqb (a / counters) (b / counters) ≡ true → ltb (b % counters) (a % counters) ≡ ltb b a
     lower e = by-counter (ltb b a) refl
       where
-        by-counter : (t : Bool) → ltb b a ≡ t → ltb (b % 65536) (a % 65536) ≡ t
-        by-counter true q = lt-ltb (b % 65536) (a % 65536) (omega (arith, eqb-true, ltb-true))
-        by-counter false q = le-ltb (b % 65536) (a % 65536) (omega (arith, eqb-true, ltb-false))
+        by-counter : (t : Bool) → ltb b a ≡ t → ltb (b % counters) (a % counters) ≡ t
+        by-counter true q = lt-ltb (b % counters) (a % counters) (omega (arith, eqb-true, ltb-true))
+        by-counter false q = le-ltb (b % counters) (a % counters) (omega (arith, eqb-true, ltb-false))
 
-    higher : eqb (a / 65536) (b / 65536) ≡ false → ltb (b / 65536) (a / 65536) ≡ ltb b a
+    higher : eqb (a / counters) (b / counters) ≡ false → ltb (b / counters) (a / counters) ≡ ltb b a
     higher e = by-number (ltb b a) refl
       where
-        by-number : (t : Bool) → ltb b a ≡ t → ltb (b / 65536) (a / 65536) ≡ t
-        by-number true q = lt-ltb (b / 65536) (a / 65536) (omega (arith, eqb-false (a / 65536) (b / 65536) e, ltb-true))
-        by-number false q = le-ltb (b / 65536) (a / 65536) (omega (arith, ltb-false b a q))
+        by-number : (t : Bool) → ltb b a ≡ t → ltb (b / counters) (a / counters) ≡ t
+        by-number true q = lt-ltb (b / counters) (a / counters) (omega (arith, eqb-false (a / counters) (b / counters) e, ltb-true))
+        by-number false q = le-ltb (b / counters) (a / counters) (omega (arith, ltb-false b a q))
 
-    go : (t : Bool) → eqb (a / 65536) (b / 65536) ≡ t → cond (eqb (a / 65536) (b / 65536)) (ltb (b % 65536) (a % 65536)) (ltb (b / 65536) (a / 65536)) ≡ ltb b a
+    go : (t : Bool) → eqb (a / counters) (b / counters) ≡ t → cond (eqb (a / counters) (b / counters)) (ltb (b % counters) (a % counters)) (ltb (b / counters) (a / counters)) ≡ ltb b a
     go true e = rw e (lower e)
     go false e = rw e (higher e)
 
@@ -84,6 +89,6 @@ pub next-above : (n c : ℕ) → isAbove (stampOf n (c + 1)) (stampOf n c) ≡ t
 unfolding stampOf
 next-above n c = lt-above _ _ (omega arith)
 
-pub later-switch-above : (m n c d : ℕ) → n < m → d < 65536 → isAbove (stampOf m c) (stampOf n d) ≡ true
+pub later-switch-above : (m n c d : ℕ) → n < m → d < counters → isAbove (stampOf m c) (stampOf n d) ≡ true
 unfolding stampOf
 later-switch-above m n c d h k = lt-above _ _ (omega arith)

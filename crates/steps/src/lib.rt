@@ -5,6 +5,7 @@ ghost use Rattle.replicas.specs.Replicas.{applying};
 ghost use Rattle.joins.specs.{handingOn};
 ghost use Rattle.protocol.specs.Steps.{lost, copied, repeated, sending, advancing, replacing, telling, removing, joining, copyingOn, givingUp};
 use limits::CONTEXTS;
+use limits::HeldFreshness;
 use limits::Number;
 use limits::Operation;
 use limits::REPLICAS;
@@ -64,7 +65,7 @@ fn send(w: Write) -> Edit
     ensures { λ r. ⌜ r ≡ sending w ⌝ }
 {
     decisions::add_two(
-        messages::packet_of(Message::Reply(w.operation, w.value, 0, NONE)),
+        messages::packet_of(Message::Reply(w.operation, w.value, 0, NONE as HeldFreshness)),
         messages::packet_of(Message::Completion(w.object, w.stamp)),
     )
 }

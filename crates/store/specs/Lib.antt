@@ -5,6 +5,7 @@ use Prim.Native.Nat.{ℕ, _+_, _*_, _/_, _%_, min}
 use lib.ListN.{getD, set}
 use Rattle.limits.specs as limits
 use Rattle.lists.specs.{listOf}
+use Rattle.stamp.specs.Stamps.{stampIn, setStamp}
 use Rattle.store.specs.declared.Write.{Write}
 
 -- how many replicas are live, then the replica at each chain place: inside the store a replica is known by its table, 1 to 8, and its number, by which packets and steps
@@ -15,37 +16,40 @@ liveCell = 0
 abbrev pub orderCell : ℕ → ℕ
 orderCell place = 1 + place
 
--- what each replica keeps, by its row
+-- what each replica keeps, by its row. Req 07: a stamp has two cells
 abbrev pub highestCell : ℕ → ℕ
-highestCell row = 9 + row
+highestCell row = 9 + 2 * row
 
 abbrev pub permitCell : ℕ → ℕ
-permitCell row = 17 + row
+permitCell row = 25 + row
 
 abbrev pub appliedCell : ℕ → ℕ
-appliedCell row = 25 + row
+appliedCell row = 33 + row
 
 -- the write at a position of the log: the links hold at most 64 positions in a row, so the remainder tells them apart
 unfoldable pub entryCell : ℕ → ℕ → ℕ
-entryCell field position = 33 + field * limits.linked + position % limits.linked
+entryCell field position = 41 + field * limits.linked + position % limits.linked
+
+unfoldable pub entryStampCell : ℕ → ℕ
+entryStampCell position = 233 + 2 * (position % limits.linked)
 
 -- a row of 1,024 values for each replica, then as many rows of stamps
 unfoldable pub valueCell : ℕ → ℕ → ℕ
-valueCell row o = 289 + (row * limits.objects + o % limits.objects)
+valueCell row o = 361 + (row * limits.objects + o % limits.objects)
 
 unfoldable pub stampCell : ℕ → ℕ → ℕ
-stampCell row o = 8481 + (row * limits.objects + o % limits.objects)
+stampCell row o = 8553 + 2 * (row * limits.objects + o % limits.objects)
 
 -- Req 04: the last replica number given; and one more than the copies made while a replica joins, 0 while none does
 abbrev pub lastNumberCell : ℕ
-lastNumberCell = 16673
+lastNumberCell = 24937
 
 abbrev pub joinCell : ℕ
-joinCell = 16674
+joinCell = 24938
 
 -- shut, so that no check counts to it
 unfoldable pub storeCells : ℕ
-storeCells = 16675
+storeCells = 24939
 
 -- ---- what is read
 
@@ -70,7 +74,7 @@ rowOf r = r % limits.replicas
 
 -- 'the highest stamp it has applied, and a permitted switch number'
 unfoldable pub highestOf : List ℕ → ℕ → ℕ
-highestOf s r = getD s (highestCell (rowOf r)) 0
+highestOf s r = stampIn s (highestCell (rowOf r))
 
 unfoldable pub permittedBy : List ℕ → ℕ → ℕ
 permittedBy s r = getD s (permitCell (rowOf r)) 0
@@ -84,7 +88,7 @@ entryAt s position = record {
   operation = getD s (entryCell 0 position) 0;
   object = getD s (entryCell 1 position) 0;
   value = getD s (entryCell 2 position) 0;
-  stamp = getD s (entryCell 3 position) 0;
+  stamp = stampIn s (entryStampCell position);
 }
 
 -- 'its own value and stamp for each object'
@@ -92,20 +96,20 @@ unfoldable pub valueAt : List ℕ → ℕ → ℕ → ℕ
 valueAt s r o = getD s (valueCell (rowOf r) o) 0
 
 unfoldable pub stampAt : List ℕ → ℕ → ℕ → ℕ
-stampAt s r o = getD s (stampCell (rowOf r) o) 0
+stampAt s r o = stampIn s (stampCell (rowOf r) o)
 
 -- ---- what is written
 
 -- a write stands at a position of the log
 unfoldable pub logged : List ℕ → ℕ → Write → List ℕ
 logged s position w =
-    set (set (set (set s (entryCell 0 position) (w .operation)) (entryCell 1 position) (w .object)) (entryCell 2 position) (w .value))
-    (entryCell 3 position) (w .stamp)
+    setStamp (set (set (set s (entryCell 0 position) (w .operation)) (entryCell 1 position) (w .object)) (entryCell 2 position) (w .value))
+    (entryStampCell position) (w .stamp)
 
 -- a replica's tables take a write
 unfoldable pub tabled : List ℕ → ℕ → Write → List ℕ
-tabled s r w = set (set s (valueCell (rowOf r) (w .object)) (w .value)) (stampCell (rowOf r) (w .object)) (w .stamp)
+tabled s r w = setStamp (set s (valueCell (rowOf r) (w .object)) (w .value)) (stampCell (rowOf r) (w .object)) (w .stamp)
 
 -- a replica has this highest stamp, and has applied so many writes
 unfoldable pub raised : List ℕ → ℕ → ℕ → ℕ → List ℕ
-raised s r highest applied = set (set s (highestCell (rowOf r)) highest) (appliedCell (rowOf r)) applied
+raised s r highest applied = set (setStamp s (highestCell (rowOf r)) highest) (appliedCell (rowOf r)) applied

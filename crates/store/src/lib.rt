@@ -1,7 +1,8 @@
 // The store that the caller lends: where each thing lies in it, and how it is read and written.
 ghost use mathlib.Core.Path.{_≡_};
 ghost use Prim.Native.Nat.{_<_};
-ghost use Rattle.store.specs.{rowOf, entryCell, valueCell, stampCell, highestOf, permittedBy, appliedBy, entryAt, valueAt, stampAt, logged, tabled, raised};
+ghost use Rattle.stamp.specs.Stamps.{stampIn, setStamp};
+ghost use Rattle.store.specs.{lastNumberCell, rowOf, entryCell, entryStampCell, valueCell, stampCell, highestOf, permittedBy, appliedBy, entryAt, valueAt, stampAt, logged, tabled, raised};
 use limits::LINKED;
 use limits::OBJECTS;
 use limits::Object;
@@ -18,21 +19,23 @@ pub const ORDER: usize = 1;
 
 pub const HIGHEST: usize = 9;
 
-pub const PERMITS: usize = 17;
+pub const PERMITS: usize = 25;
 
-pub const APPLIED: usize = 25;
+pub const APPLIED: usize = 33;
 
-pub const ENTRIES: usize = 33;
+pub const ENTRIES: usize = 41;
 
-pub const VALUES: usize = 289;
+pub const ENTRY_STAMPS: usize = 233;
 
-pub const STAMPS: usize = 8481;
+pub const VALUES: usize = 361;
 
-pub const LAST_NUMBER: usize = 16673;
+pub const STAMPS: usize = 8553;
 
-pub const JOIN: usize = 16674;
+pub const LAST_NUMBER: usize = 24937;
 
-pub const CELLS: usize = 16675;
+pub const JOIN: usize = 24938;
+
+pub const CELLS: usize = 24939;
 
 // A write of the log, with the stamp that the switch gave it.
 pub struct Write {
@@ -49,22 +52,49 @@ pub fn row(r: Table) -> usize
 }
 
 fn value_cell(r: Table, o: Object) -> usize
-    ensures { λ x. ⌜ (x ≡ valueCell (rowOf r) o) × (x < 8481) ⌝ }
+    ensures { λ x. ⌜ (x ≡ valueCell (rowOf r) o) × (x < 8553) ⌝ }
 {
     VALUES + (row(r) * OBJECTS + (o % 1024) as usize)
 }
 
 fn stamp_cell(r: Table, o: Object) -> usize
-    ensures { λ x. ⌜ (x ≡ stampCell (rowOf r) o) × (x < 16673) ⌝ }
+    ensures { λ x. ⌜ (x ≡ stampCell (rowOf r) o) × (x < 24936) ⌝ }
 {
-    STAMPS + (row(r) * OBJECTS + (o % 1024) as usize)
+    STAMPS + 2 * (row(r) * OBJECTS + (o % 1024) as usize)
 }
 
 fn entry_cell(field: usize, p: Position) -> usize
-    requires { ⌜ field < 4 ⌝ }
-    ensures { λ x. ⌜ (x ≡ entryCell field p) × (x < 289) ⌝ }
+    requires { ⌜ field < 3 ⌝ }
+    ensures { λ x. ⌜ (x ≡ entryCell field p) × (x < 233) ⌝ }
 {
     ENTRIES + field * LINKED + (p % 64) as usize
+}
+
+fn entry_stamp_cell(p: Position) -> usize
+    ensures { λ x. ⌜ (x ≡ entryStampCell p) × (x < 360) ⌝ }
+{
+    ENTRY_STAMPS + 2 * (p % 64) as usize
+}
+
+// ---- stamps, in two cells each
+
+fn stamp_in(cells: &[u32; CELLS], at: usize) -> Stamp
+    requires { ⌜ at < lastNumberCell ⌝ }
+    ensures { λ r. ⌜ r ≡ stampIn (now (cells .entry)) at ⌝ }
+{
+    let upper = cells[at];
+    let lower = cells[at + 1];
+    stamp::joined(upper, lower)
+}
+
+fn set_stamp(cells: &mut [u32; CELLS], at: usize, t: Stamp)
+    requires { ⌜ at < lastNumberCell ⌝ }
+    ensures { λ _. ⌜ now (cells .exit) ≡ setStamp (now (cells .entry)) at t ⌝ }
+{
+    let upper = stamp::upper(t);
+    let lower = stamp::lower(t);
+    cells[at] = upper;
+    cells[at + 1] = lower;
 }
 
 // ---- what each replica keeps
@@ -72,8 +102,8 @@ fn entry_cell(field: usize, p: Position) -> usize
 pub fn highest(cells: &[u32; CELLS], r: Table) -> Stamp
     ensures { λ x. ⌜ x ≡ highestOf (now (cells .entry)) r ⌝ }
 {
-    let i = HIGHEST + row(r);
-    cells[i]
+    let i = HIGHEST + 2 * row(r);
+    stamp_in(cells, i)
 }
 
 // The switch number that it permits, as the cell has it.
@@ -95,7 +125,7 @@ pub fn raise(cells: &mut [u32; CELLS], r: Table, highest: Stamp, applied: Positi
     ensures { λ _. ⌜ now (cells .exit) ≡ raised (now (cells .entry)) r highest applied ⌝ }
 {
     let i = row(r);
-    cells[HIGHEST + i] = highest;
+    set_stamp(&mut *cells, HIGHEST + 2 * i, highest);
     cells[APPLIED + i] = applied;
 }
 
@@ -112,7 +142,7 @@ pub fn read_stamp(cells: &[u32; CELLS], r: Table, o: Object) -> Stamp
     ensures { λ x. ⌜ x ≡ stampAt (now (cells .entry)) r o ⌝ }
 {
     let i = stamp_cell(r, o);
-    cells[i]
+    stamp_in(cells, i)
 }
 
 pub fn put_write(cells: &mut [u32; CELLS], r: Table, w: Write)
@@ -121,7 +151,7 @@ pub fn put_write(cells: &mut [u32; CELLS], r: Table, w: Write)
     let i = value_cell(r, w.object);
     cells[i] = w.value;
     let j = stamp_cell(r, w.object);
-    cells[j] = w.stamp;
+    set_stamp(&mut *cells, j, w.stamp);
 }
 
 // ---- the log
@@ -133,12 +163,13 @@ pub fn read_entry(cells: &[u32; CELLS], p: Position) -> Write
     let a = entry_cell(0, p);
     let b = entry_cell(1, p);
     let c = entry_cell(2, p);
-    let d = entry_cell(3, p);
+    let d = entry_stamp_cell(p);
+    let stamp = stamp_in(cells, d);
     Write {
         operation: cells[a],
         object: cells[b],
         value: cells[c],
-        stamp: cells[d],
+        stamp,
     }
 }
 
@@ -151,6 +182,6 @@ pub fn put_entry(cells: &mut [u32; CELLS], p: Position, w: Write)
     cells[b] = w.object;
     let c = entry_cell(2, p);
     cells[c] = w.value;
-    let d = entry_cell(3, p);
-    cells[d] = w.stamp;
+    let d = entry_stamp_cell(p);
+    set_stamp(&mut *cells, d, w.stamp);
 }

@@ -11,7 +11,9 @@ use lib.ListN.{getD}
 use borrow.Author.Tests.{ne-eqb}
 use Rattle.stamp.proofs.Laws.{le-above}
 use Rattle.slots.specs.{countsAbove}
-use Rattle.switch.specs.Numbers.{slots, committedIn, marksIn, slotStamp}
+use Rattle.stamp.specs.Stamps.{stampIn}
+use Rattle.stamp.proofs.Cells.{stamp-reads}
+use Rattle.switch.specs.Numbers.{committedCell, slotStampCell, slots, committedIn, marksIn, slotStamp}
 use Rattle.switch.specs.DirtySet.{slotFor, nextStamp, lessOne, oneMore, marksFor, marking, marked, committing, completed, newSwitch, countedTo, countedMarks}
 use Rattle.switch.proofs.Laws.{SizedSwitch, MarkedCases, marked-cases, stamp-marking, stamp-unmarked, marks-marking, marking-committed, sized-marked, sized-completed, completed-beside, marks-completed, sized-new, new-marks, stamp-new}
 
@@ -108,13 +110,14 @@ invariant-marked w o h = record { sized = sized-marked w o (h .sized); stored = 
 -- the number that a completion stores is no part of the count
 stamp-beside : (w : List ℕ) (o t i : ℕ) → i < slots → slotStamp (completed w o t) i ≡ slotStamp (committing w o t) i
 unfolding slotStamp
-stamp-beside w o t i b = completed-beside w o t (52 + i) (λ e. omega arith)
+stamp-beside w o t i b =
+    stamp-reads (completed w o t) (committing w o t) (slotStampCell i) (completed-beside w o t (slotStampCell i) (λ e. omega (arith, e, b))) (completed-beside w o t (slotStampCell i + 1) (λ e. omega (arith, e, b)))
 
 counted-completed : (w : List ℕ) (o t : ℕ) → countedMarks (completed w o t) ≡ countedMarks (committing w o t)
 unfolding countedMarks committedIn
 counted-completed w o t =
-    rw (completed-beside w o t 2 (λ e. omega arith))
-    (counted-same (completed w o t) (committing w o t) (getD (committing w o t) 2 0) slots (stamp-beside w o t))
+    rw (stamp-reads (completed w o t) (committing w o t) committedCell (completed-beside w o t committedCell (λ e. omega (arith, e))) (completed-beside w o t (committedCell + 1) (λ e. omega (arith, e))))
+    (counted-same (completed w o t) (committing w o t) (stampIn (committing w o t) committedCell) slots (stamp-beside w o t))
 
 -- however many marks the completion stops, and whatever number was stored before
 pub invariant-completed : (w : List ℕ) (o t : ℕ) → SizedSwitch w → SwitchInvariant (completed w o t)

@@ -10,9 +10,11 @@ use lib.Dec.{eqb, ltb}
 use lib.ListN.{length, getD, set, replicate, length-set, length-replicate}
 use lib.Seq.{getD-set-same, getD-set-other}
 use borrow.Author.Tests.{eqb-false, ne-eqb, ltb-true}
-use Rattle.stamp.specs.Stamps.{stampOf, isAbove, largerOf}
+use Rattle.limits.specs.{switchNumbers, lastCounter}
+use Rattle.stamp.specs.Stamps.{stampOf, isAbove, largerOf, stampIn, setStamp}
+use Rattle.stamp.proofs.Cells.{length-stamp, stamp-reads, stamp-same, cell-beside, stamp-beside, stamp-kept}
 use Rattle.stamp.proofs.Laws.{lt-above, le-above, above-false}
-use Rattle.switch.specs.Numbers.{slots, switchCells, numberIn, counterIn, committedIn, directIn, marksIn, slotObject, slotStamp}
+use Rattle.switch.specs.Numbers.{numberCell, counterCell, committedCell, directCell, objectCell, slotStampCell, marksCell, slots, switchCells, numberIn, counterIn, committedIn, directIn, marksIn, slotObject, slotStamp}
 use Rattle.slots.specs.{firstSlot, secondSlot, thirdSlot, holdsObject, isCompleted, countsAbove}
 use Rattle.switch.specs.DirtySet.{slotFor, nextStamp, marksFor, slotMarked, marking, canMark, marked, stampFor, clearedAt, committing, completed, newSwitch, countedMarks}
 use Rattle.switch.proofs.FirstSlot.{slots-rise}
@@ -26,15 +28,15 @@ SizedSwitch w = length w ≡ switchCells
 abbrev pub MarkedCases : List ℕ → ℕ → Type 0
 MarkedCases w o =
     ((canMark w o ≡ false) × (marked w o ≡ w) × (stampFor w o ≡ 0)) ⊎
-    ((canMark w o ≡ true) × (marked w o ≡ marking w o (slotFor w o)) × (stampFor w o ≡ nextStamp w) × (slotFor w o < slots) × (counterIn w ≡ 65535 → ⊥))
+    ((canMark w o ≡ true) × (marked w o ≡ marking w o (slotFor w o)) × (stampFor w o ≡ nextStamp w) × (slotFor w o < slots) × (counterIn w ≡ lastCounter → ⊥))
 
-can-mark : (w : List ℕ) (o : ℕ) → canMark w o ≡ true → (slotFor w o < slots) × (counterIn w ≡ 65535 → ⊥)
+can-mark : (w : List ℕ) (o : ℕ) → canMark w o ≡ true → (slotFor w o < slots) × (counterIn w ≡ lastCounter → ⊥)
 unfolding canMark
-can-mark w o = go (eqb (counterIn w) 65535) refl
+can-mark w o = go (eqb (counterIn w) lastCounter) refl
   where
-    go : (a : Bool) → eqb (counterIn w) 65535 ≡ a → cond a false (ltb (slotFor w o) slots) ≡ true → (slotFor w o < slots) × (counterIn w ≡ 65535 → ⊥)
+    go : (a : Bool) → eqb (counterIn w) lastCounter ≡ a → cond a false (ltb (slotFor w o) slots) ≡ true → (slotFor w o < slots) × (counterIn w ≡ lastCounter → ⊥)
     go true p e = absurd (let z : _≡_ {A = ℕ} 0 1 = cc in omega arith)
-    go false p e = (ltb-true (slotFor w o) slots e, eqb-false (counterIn w) 65535 p)
+    go false p e = (ltb-true (slotFor w o) slots e, eqb-false (counterIn w) lastCounter p)
 
 pub marked-cases : (w : List ℕ) (o : ℕ) → MarkedCases w o
 unfolding marked stampFor
@@ -60,54 +62,67 @@ stamp-used w o n = go (marked-cases w o)
 -- ---- a number that a mark leaves as it is
 
 -- what a mark does beside the stored number of counting marks
-marking-beside : (w : List ℕ) (o i j : ℕ) → (j ≡ 100 → ⊥) → getD (marking w o i) j 0 ≡ getD (slotMarked w o i) j 0
+marking-beside : (w : List ℕ) (o i j : ℕ) → (j ≡ marksCell → ⊥) → getD (marking w o i) j 0 ≡ getD (slotMarked w o i) j 0
 unfolding marking
-marking-beside w o i j d = getD-set-other (slotMarked w o i) 100 j (marksFor w i (nextStamp w)) 0 d
+marking-beside w o i j d = getD-set-other (slotMarked w o i) marksCell j (marksFor w i (nextStamp w)) 0 d
 
-marking-kept : (w : List ℕ) (o i j : ℕ) → (j ≡ 1 → ⊥) → (j ≡ 4 + i → ⊥) → (j ≡ 52 + i → ⊥) → (j ≡ 100 → ⊥) → getD (marking w o i) j 0 ≡ getD w j 0
-marking-kept w o i j a b c d =
+-- the switch with the counter moved on, and then with the object in its slot
+abbrev moved : List ℕ → List ℕ
+moved w = set w counterCell (counterIn w + 1)
+
+abbrev taken : List ℕ → ℕ → ℕ → List ℕ
+taken w o i = set (moved w) (objectCell i) o
+
+marking-kept : (w : List ℕ) (o i j : ℕ) → (j ≡ counterCell → ⊥) → (j ≡ objectCell i → ⊥) → (j ≡ slotStampCell i → ⊥) → (j ≡ slotStampCell i + 1 → ⊥) → (j ≡ marksCell → ⊥) → getD (marking w o i) j 0 ≡ getD w j 0
+marking-kept w o i j a b c f d =
     marking-beside w o i j d ∙
-    getD-set-other (set (set w 1 (counterIn w + 1)) (4 + i) o) (52 + i) j (nextStamp w) 0 c ∙
-    getD-set-other (set w 1 (counterIn w + 1)) (4 + i) j o 0 b ∙
-    getD-set-other w 1 j (counterIn w + 1) 0 a
+    cell-beside (taken w o i) (slotStampCell i) (nextStamp w) j c f ∙
+    getD-set-other (moved w) (objectCell i) j o 0 b ∙
+    getD-set-other w counterCell j (counterIn w + 1) 0 a
 
 -- the four that it changes
 module _ (w : List ℕ) (o i : ℕ) (z : SizedSwitch w) (h : i < slots) where
-  pub counter-marking : (counterIn w ≡ 65535 → ⊥) → counterIn (marking w o i) ≡ counterIn w + 1
+  pub counter-marking : counterIn (marking w o i) ≡ counterIn w + 1
   unfolding counterIn
-  counter-marking n =
-      let cell : getD (marking w o i) 1 0 ≡ getD w 1 0 % 65536 + 1 =
-      marking-beside w o i 1 (λ e. omega arith) ∙
-      getD-set-other (set (set w 1 (counterIn w + 1)) (4 + i) o) (52 + i) 1 (nextStamp w) 0 (λ e. omega arith) ∙
-      getD-set-other (set w 1 (counterIn w + 1)) (4 + i) 1 o 0 (λ e. omega arith) ∙
-      getD-set-same w 1 (counterIn w + 1) 0 (omega arith) in
-      rw cell (omega (arith, n))
+  counter-marking =
+      marking-beside w o i counterCell (λ e. omega (arith, e)) ∙
+      cell-beside (taken w o i) (slotStampCell i) (nextStamp w) counterCell (λ e. omega (arith, e)) (λ e. omega (arith, e)) ∙
+      getD-set-other (moved w) (objectCell i) counterCell o 0 (λ e. omega (arith, e)) ∙
+      getD-set-same w counterCell (counterIn w + 1) 0 (omega (arith, z))
 
   pub object-marking : slotObject (marking w o i) i ≡ o
   unfolding slotObject
   object-marking =
-      marking-beside w o i (4 + i) (λ e. omega arith) ∙
-      getD-set-other (set (set w 1 (counterIn w + 1)) (4 + i) o) (52 + i) (4 + i) (nextStamp w) 0 (λ e. omega arith) ∙
-      getD-set-same (set w 1 (counterIn w + 1)) (4 + i) o 0 (simp length-set (omega arith))
+      marking-beside w o i (objectCell i) (λ e. omega (arith, e, h)) ∙
+      cell-beside (taken w o i) (slotStampCell i) (nextStamp w) (objectCell i) (λ e. omega (arith, e, h)) (λ e. omega (arith, e, h)) ∙
+      getD-set-same (moved w) (objectCell i) o 0 (simp length-set (omega (arith, z, h)))
+
+  long : length (taken w o i) ≡ switchCells
+  long = length-set (moved w) (objectCell i) o ∙ length-set w counterCell (counterIn w + 1) ∙ z
 
   pub stamp-marking : slotStamp (marking w o i) i ≡ nextStamp w
-  unfolding slotStamp
+  unfolding slotStamp marking
   stamp-marking =
-      marking-beside w o i (52 + i) (λ e. omega arith) ∙
-      getD-set-same (set (set w 1 (counterIn w + 1)) (4 + i) o) (52 + i) (nextStamp w) 0 (simp length-set (omega arith))
+      stamp-kept (slotMarked w o i) marksCell (marksFor w i (nextStamp w)) (slotStampCell i) (λ e. omega (arith, e, h)) (λ e. omega (arith, e, h)) ∙
+      stamp-same (taken w o i) (slotStampCell i) (nextStamp w) (omega (arith, long, h))
 
   pub marks-marking : marksIn (marking w o i) ≡ marksFor w i (nextStamp w)
   unfolding marking marksIn
-  marks-marking = getD-set-same (slotMarked w o i) 100 (marksFor w i (nextStamp w)) 0 (simp length-set (omega arith))
+  marks-marking =
+      getD-set-same (slotMarked w o i) marksCell (marksFor w i (nextStamp w)) 0 (omega (arith, length-stamp (taken w o i) (slotStampCell i) (nextStamp w), long))
 
   -- every other slot stays
   pub object-unmarked : (j : ℕ) → j < slots → (j ≡ i → ⊥) → slotObject (marking w o i) j ≡ slotObject w j
   unfolding slotObject
-  object-unmarked j b n = marking-kept w o i (4 + j) (λ e. omega arith) (λ e. n (omega arith)) (λ e. omega arith) (λ e. omega arith)
+  object-unmarked j b n =
+      marking-kept w o i (objectCell j) (λ e. omega (arith, e)) (λ e. n (omega (arith, e))) (λ e. omega (arith, e, b)) (λ e. omega (arith, e, b)) (λ e. omega (arith, e, b))
 
   pub stamp-unmarked : (j : ℕ) → j < slots → (j ≡ i → ⊥) → slotStamp (marking w o i) j ≡ slotStamp w j
   unfolding slotStamp
-  stamp-unmarked j b n = marking-kept w o i (52 + j) (λ e. omega arith) (λ e. omega arith) (λ e. n (omega arith)) (λ e. omega arith)
+  stamp-unmarked j b n =
+      stamp-reads (marking w o i) w (slotStampCell j)
+      (marking-kept w o i (slotStampCell j) (λ e. omega (arith, e)) (λ e. omega (arith, e, h)) (λ e. n (omega (arith, e))) (λ e. omega (arith, e)) (λ e. omega (arith, e, b)))
+      (marking-kept w o i (slotStampCell j + 1) (λ e. omega (arith, e)) (λ e. omega (arith, e, h)) (λ e. omega (arith, e)) (λ e. n (omega (arith, e))) (λ e. omega (arith, e, b)))
 
 -- ---- after a mark
 
@@ -122,12 +137,15 @@ by-marked P w o a b = go (marked-cases w o)
 pub marked-number : (w : List ℕ) (o : ℕ) → numberIn (marked w o) ≡ numberIn w
 unfolding numberIn
 marked-number w o =
-    by-marked (λ v. getD v 0 0 % 65536 ≡ getD w 0 0 % 65536) w o refl
-    (ap (λ (n : ℕ). n % 65536) (marking-kept w o (slotFor w o) 0 (λ e. omega arith) (λ e. omega arith) (λ e. omega arith) (λ e. omega arith)))
+    by-marked (λ v. getD v numberCell 0 % switchNumbers ≡ getD w numberCell 0 % switchNumbers) w o refl
+    (ap (λ (n : ℕ). n % switchNumbers) (marking-kept w o (slotFor w o) numberCell (λ e. omega (arith, e)) (λ e. omega (arith, e)) (λ e. omega (arith, e)) (λ e. omega (arith, e)) (λ e. omega (arith, e))))
 
 pub marking-committed : (w : List ℕ) (o i : ℕ) → committedIn (marking w o i) ≡ committedIn w
 unfolding committedIn
-marking-committed w o i = marking-kept w o i 2 (λ e. omega arith) (λ e. omega arith) (λ e. omega arith) (λ e. omega arith)
+marking-committed w o i =
+    stamp-reads (marking w o i) w committedCell
+    (marking-kept w o i committedCell (λ e. omega (arith, e)) (λ e. omega (arith, e)) (λ e. omega (arith, e)) (λ e. omega (arith, e)) (λ e. omega (arith, e)))
+    (marking-kept w o i (committedCell + 1) (λ e. omega (arith, e)) (λ e. omega (arith, e)) (λ e. omega (arith, e)) (λ e. omega (arith, e)) (λ e. omega (arith, e)))
 
 pub marked-committed : (w : List ℕ) (o : ℕ) → committedIn (marked w o) ≡ committedIn w
 marked-committed w o = by-marked (λ v. committedIn v ≡ committedIn w) w o refl (marking-committed w o (slotFor w o))
@@ -135,8 +153,8 @@ marked-committed w o = by-marked (λ v. committedIn v ≡ committedIn w) w o ref
 pub marked-direct : (w : List ℕ) (o : ℕ) → directIn (marked w o) ≡ directIn w
 unfolding directIn
 marked-direct w o =
-    by-marked (λ v. not (eqb (getD v 3 0) 0) ≡ not (eqb (getD w 3 0) 0)) w o refl
-    (ap (λ (n : ℕ). not (eqb n 0)) (marking-kept w o (slotFor w o) 3 (λ e. omega arith) (λ e. omega arith) (λ e. omega arith) (λ e. omega arith)))
+    by-marked (λ v. not (eqb (getD v directCell 0) 0) ≡ not (eqb (getD w directCell 0) 0)) w o refl
+    (ap (λ (n : ℕ). not (eqb n 0)) (marking-kept w o (slotFor w o) directCell (λ e. omega (arith, e)) (λ e. omega (arith, e)) (λ e. omega (arith, e)) (λ e. omega (arith, e)) (λ e. omega (arith, e))))
 
 -- the counter rises by one exactly if the write gets a stamp
 pub marked-counter : (w : List ℕ) (o : ℕ) → SizedSwitch w → counterIn (marked w o) ≡ cond (eqb (stampFor w o) 0) (counterIn w) (counterIn w + 1)
@@ -144,7 +162,7 @@ marked-counter w o z = go (marked-cases w o)
   where
     go : MarkedCases w o → counterIn (marked w o) ≡ cond (eqb (stampFor w o) 0) (counterIn w) (counterIn w + 1)
     go (inl e) = rw (e .1, e .2)
-    go (inr e) = rw (e .1, e .2, ne-eqb (nextStamp w) 0 (next-stamp-used w)) (counter-marking w o (slotFor w o) z (e .3) (e .4))
+    go (inr e) = rw (e .1, e .2, ne-eqb (nextStamp w) 0 (next-stamp-used w)) (counter-marking w o (slotFor w o) z (e .3))
 
 -- a write that gets no stamp leaves the switch as it was
 pub marked-stays : (w : List ℕ) (o : ℕ) → stampFor w o ≡ 0 → marked w o ≡ w
@@ -155,7 +173,7 @@ marked-stays w o e = go (marked-cases w o)
     go (inr m) = absurd (next-stamp-used w (sym (m .2) ∙ e))
 
 pub sized-marked : (w : List ℕ) (o : ℕ) → SizedSwitch w → SizedSwitch (marked w o)
-unfolding marking
+unfolding marking setStamp
 sized-marked w o h = by-marked SizedSwitch w o h (simp length-set h)
 
 -- the next stamp is above last-committed where that is at most the last stamp given
@@ -177,21 +195,21 @@ completed-low x s o t = go (holdsObject x s o) (isAbove s t) refl
 -- w is v without some marks that the completion t covers: every other number stays
 pub record Covered (t : ℕ) (v w : List ℕ) : Type 0 where
   pub same-length : length w ≡ length v
-  pub same : (j : ℕ) → j < 52 → getD w j 0 ≡ getD v j 0
+  pub same : (j : ℕ) → j < slotStampCell 0 → getD w j 0 ≡ getD v j 0
   pub stamps : (i : ℕ) → (slotStamp w i ≡ slotStamp v i) ⊎ ((slotStamp w i ≡ 0) × (slotStamp v i ≤ t))
 
 covered-none : (t : ℕ) (v : List ℕ) → Covered t v v
 covered-none t v = record { same-length = refl; same = λ j b. refl; stamps = λ i. inl refl }
 
 -- a slot that was emptied
-covered-one : (t : ℕ) (v : List ℕ) (i : ℕ) → SizedSwitch v → i < slots → slotStamp v i ≤ t → Covered t v (set v (52 + i) 0)
+covered-one : (t : ℕ) (v : List ℕ) (i : ℕ) → SizedSwitch v → i < slots → slotStamp v i ≤ t → Covered t v (setStamp v (slotStampCell i) 0)
 unfolding slotStamp
 covered-one t v i z b low = record {
-  same-length = length-set v (52 + i) 0;
-  same = λ j h. getD-set-other v (52 + i) j 0 0 (λ e. omega arith);
+  same-length = length-stamp v (slotStampCell i) 0;
+  same = λ j h. cell-beside v (slotStampCell i) 0 j (λ e. omega (arith, e, h)) (λ e. omega (arith, e, h));
   stamps = λ j. elim (ℕ-discrete j i) [
-    | yes e ↦ rw e (inr (getD-set-same v (52 + i) 0 0 (omega arith), low))
-    | no n ↦ inl (getD-set-other v (52 + i) (52 + j) 0 0 (λ e. n (omega arith)))
+    | yes e ↦ rw e (inr (stamp-same v (slotStampCell i) 0 (omega (arith, z, b)), low))
+    | no n ↦ inl (stamp-beside v (slotStampCell i) 0 (slotStampCell j) (λ e. n (omega (arith, e))) (λ e. omega (arith, e)) (λ e. omega (arith, e)))
   ];
 }
 
@@ -199,7 +217,7 @@ cleared-covered : (v : List ℕ) (o t i : ℕ) → SizedSwitch v → i < slots �
 unfolding clearedAt
 cleared-covered v o t i z b = go (isCompleted (slotObject v i) (slotStamp v i) o t) refl
   where
-    go : (c : Bool) → isCompleted (slotObject v i) (slotStamp v i) o t ≡ c → Covered t v (cond c (set v (52 + i) 0) v)
+    go : (c : Bool) → isCompleted (slotObject v i) (slotStamp v i) o t ≡ c → Covered t v (cond c (setStamp v (slotStampCell i) 0) v)
     go true e = covered-one t v i z b (completed-low (slotObject v i) (slotStamp v i) o t e)
     go false e = covered-none t v
 
@@ -228,16 +246,18 @@ completed-covered w o t z =
     covered-twice both (cleared-covered (clearedAt (clearedAt w o t (firstSlot o)) o t (secondSlot o)) o t (thirdSlot o) (both .same-length ∙ z) (omega (arith, rise)))
 
 -- the three numbers that a completion sets beside the slots
-pub completed-beside : (w : List ℕ) (o t j : ℕ) → (j ≡ 100 → ⊥) → getD (completed w o t) j 0 ≡ getD (committing w o t) j 0
+pub completed-beside : (w : List ℕ) (o t j : ℕ) → (j ≡ marksCell → ⊥) → getD (completed w o t) j 0 ≡ getD (committing w o t) j 0
 unfolding completed
-completed-beside w o t j d = getD-set-other (committing w o t) 100 j (countedMarks (committing w o t)) 0 d
+completed-beside w o t j d = getD-set-other (committing w o t) marksCell j (countedMarks (committing w o t)) 0 d
 
-completed-other : (w : List ℕ) (o t j : ℕ) → (j ≡ 2 → ⊥) → (j ≡ 3 → ⊥) → (j ≡ 100 → ⊥) → getD (completed w o t) j 0 ≡ getD (clearedOf w o t) j 0
+-- the switch with its marks cleared and last-committed raised
+abbrev raised : List ℕ → ℕ → ℕ → List ℕ
+raised w o t = setStamp (clearedOf w o t) committedCell (largerOf (committedIn w) t)
+
+completed-other : (w : List ℕ) (o t j : ℕ) → (j ≡ committedCell → ⊥) → (j ≡ committedCell + 1 → ⊥) → (j ≡ directCell → ⊥) → (j ≡ marksCell → ⊥) → getD (completed w o t) j 0 ≡ getD (clearedOf w o t) j 0
 unfolding committing
-completed-other w o t j a b d =
-    completed-beside w o t j d ∙
-    getD-set-other (set (clearedOf w o t) 2 (largerOf (committedIn w) t)) 3 j 1 0 b ∙
-    getD-set-other (clearedOf w o t) 2 j (largerOf (committedIn w) t) 0 a
+completed-other w o t j a c b d =
+    completed-beside w o t j d ∙ getD-set-other (raised w o t) directCell j 1 0 b ∙ cell-beside (clearedOf w o t) committedCell (largerOf (committedIn w) t) j a c
 
 module _ (w : List ℕ) (o t : ℕ) (z : SizedSwitch w) where
   sized-cleared : length (clearedOf w o t) ≡ switchCells
@@ -245,7 +265,7 @@ module _ (w : List ℕ) (o t : ℕ) (z : SizedSwitch w) where
 
   sized-committing : SizedSwitch (committing w o t)
   unfolding committing
-  sized-committing = simp length-set sized-cleared
+  sized-committing = length-set (raised w o t) directCell 1 ∙ length-stamp (clearedOf w o t) committedCell (largerOf (committedIn w) t) ∙ sized-cleared
 
   pub sized-completed : SizedSwitch (completed w o t)
   unfolding completed
@@ -254,43 +274,45 @@ module _ (w : List ℕ) (o t : ℕ) (z : SizedSwitch w) where
   pub completed-number : numberIn (completed w o t) ≡ numberIn w
   unfolding numberIn
   completed-number =
-      ap (λ (n : ℕ). n % 65536)
-      (completed-other w o t 0 (λ e. omega arith) (λ e. omega arith) (λ e. omega arith) ∙ completed-covered w o t z .same 0 (omega arith))
+      ap (λ (n : ℕ). n % switchNumbers)
+      (completed-other w o t numberCell (λ e. omega (arith, e)) (λ e. omega (arith, e)) (λ e. omega (arith, e)) (λ e. omega (arith, e)) ∙ completed-covered w o t z .same numberCell (omega arith))
 
   pub completed-counter : counterIn (completed w o t) ≡ counterIn w
   unfolding counterIn
   completed-counter =
-      ap (λ (n : ℕ). n % 65536)
-      (completed-other w o t 1 (λ e. omega arith) (λ e. omega arith) (λ e. omega arith) ∙ completed-covered w o t z .same 1 (omega arith))
+      completed-other w o t counterCell (λ e. omega (arith, e)) (λ e. omega (arith, e)) (λ e. omega (arith, e)) (λ e. omega (arith, e)) ∙ completed-covered w o t z .same counterCell (omega arith)
 
   pub completed-committed : committedIn (completed w o t) ≡ largerOf (committedIn w) t
   unfolding committing committedIn
   completed-committed =
-      completed-beside w o t 2 (λ e. omega arith) ∙
-      getD-set-other (set (clearedOf w o t) 2 (largerOf (committedIn w) t)) 3 2 1 0 (λ e. omega arith) ∙
-      getD-set-same (clearedOf w o t) 2 (largerOf (committedIn w) t) 0 (omega (arith, sized-cleared))
+      stamp-reads (completed w o t) (committing w o t) committedCell (completed-beside w o t committedCell (λ e. omega (arith, e))) (completed-beside w o t (committedCell + 1) (λ e. omega (arith, e))) ∙
+      stamp-kept (raised w o t) directCell 1 committedCell (λ e. omega (arith, e)) (λ e. omega (arith, e)) ∙
+      stamp-same (clearedOf w o t) committedCell (largerOf (committedIn w) t) (omega (arith, sized-cleared))
 
   pub completed-direct : directIn (completed w o t) ≡ true
   unfolding committing directIn
   completed-direct =
       ap (λ (n : ℕ). not (eqb n 0))
-      (completed-beside w o t 3 (λ e. omega arith) ∙
-      getD-set-same (set (clearedOf w o t) 2 (largerOf (committedIn w) t)) 3 1 0 (simp length-set (omega (arith, sized-cleared))))
+      (completed-beside w o t directCell (λ e. omega (arith, e)) ∙
+      getD-set-same (raised w o t) directCell 1 0 (omega (arith, length-stamp (clearedOf w o t) committedCell (largerOf (committedIn w) t), sized-cleared)))
 
   -- the stored number is counted anew
   pub marks-completed : marksIn (completed w o t) ≡ countedMarks (committing w o t)
   unfolding completed marksIn
-  marks-completed = getD-set-same (committing w o t) 100 (countedMarks (committing w o t)) 0 (omega (arith, sized-committing))
+  marks-completed = getD-set-same (committing w o t) marksCell (countedMarks (committing w o t)) 0 (omega (arith, sized-committing))
 
   -- each slot keeps its object; it keeps its stamp, or was emptied and had one that the completion covers
   pub object-completed : (i : ℕ) → i < slots → slotObject (completed w o t) i ≡ slotObject w i
   unfolding slotObject
   object-completed i b =
-      completed-other w o t (4 + i) (λ e. omega arith) (λ e. omega arith) (λ e. omega arith) ∙ completed-covered w o t z .same (4 + i) (omega arith)
+      completed-other w o t (objectCell i) (λ e. omega (arith, e)) (λ e. omega (arith, e)) (λ e. omega (arith, e)) (λ e. omega (arith, e, b)) ∙ completed-covered w o t z .same (objectCell i) (omega (arith, b))
 
   stamp-cleared : (i : ℕ) → i < slots → slotStamp (completed w o t) i ≡ slotStamp (clearedOf w o t) i
   unfolding slotStamp
-  stamp-cleared i b = completed-other w o t (52 + i) (λ e. omega arith) (λ e. omega arith) (λ e. omega arith)
+  stamp-cleared i b =
+      stamp-reads (completed w o t) (clearedOf w o t) (slotStampCell i)
+      (completed-other w o t (slotStampCell i) (λ e. omega (arith, e)) (λ e. omega (arith, e)) (λ e. omega (arith, e)) (λ e. omega (arith, e, b)))
+      (completed-other w o t (slotStampCell i + 1) (λ e. omega (arith, e)) (λ e. omega (arith, e)) (λ e. omega (arith, e)) (λ e. omega (arith, e, b)))
 
   pub stamp-completed : (i : ℕ) → i < slots → (slotStamp (completed w o t) i ≡ slotStamp w i) ⊎ ((slotStamp (completed w o t) i ≡ 0) × (slotStamp w i ≤ t))
   stamp-completed i b = go (completed-covered w o t z .stamps i)
@@ -311,30 +333,35 @@ new-other : (n j : ℕ) → (j ≡ 0 → ⊥) → getD (newSwitch n) j 0 ≡ 0
 unfolding newSwitch
 new-other n j d = getD-set-other (replicate switchCells 0) 0 j n 0 d ∙ zeros switchCells j
 
+-- two cells of it are the stamp (0,0)
+new-stamp : (n j : ℕ) → (j ≡ 0 → ⊥) → stampIn (newSwitch n) j ≡ 0
+unfolding stampIn stampOf
+new-stamp n j d = rw (new-other n j d, new-other n (j + 1) (λ e. omega (arith, e)))
+
 pub sized-new : (n : ℕ) → SizedSwitch (newSwitch n)
 unfolding newSwitch
 sized-new n = length-set (replicate switchCells 0) 0 n ∙ length-replicate {A = ℕ} switchCells 0
 
-pub new-number : (n : ℕ) → n < 65536 → numberIn (newSwitch n) ≡ n
+pub new-number : (n : ℕ) → n < switchNumbers → numberIn (newSwitch n) ≡ n
 unfolding numberIn newSwitch
 new-number n h = omega (arith, getD-set-same (replicate switchCells 0) 0 n 0 (omega (arith, length-replicate {A = ℕ} switchCells 0)))
 
 pub new-counter : (n : ℕ) → counterIn (newSwitch n) ≡ 0
 unfolding counterIn
-new-counter n = ap (λ (k : ℕ). k % 65536) (new-other n 1 (λ e. omega arith))
+new-counter n = new-other n counterCell (λ e. omega (arith, e))
 
 pub new-committed : (n : ℕ) → committedIn (newSwitch n) ≡ 0
 unfolding committedIn
-new-committed n = new-other n 2 (λ e. omega arith)
+new-committed n = new-stamp n committedCell (λ e. omega (arith, e))
 
 pub new-marks : (n : ℕ) → marksIn (newSwitch n) ≡ 0
 unfolding marksIn
-new-marks n = new-other n 100 (λ e. omega arith)
+new-marks n = new-other n marksCell (λ e. omega (arith, e))
 
 pub new-direct : (n : ℕ) → directIn (newSwitch n) ≡ false
 unfolding directIn
-new-direct n = ap (λ (k : ℕ). not (eqb k 0)) (new-other n 3 (λ e. omega arith))
+new-direct n = ap (λ (k : ℕ). not (eqb k 0)) (new-other n directCell (λ e. omega (arith, e)))
 
 pub stamp-new : (n i : ℕ) → slotStamp (newSwitch n) i ≡ 0
 unfolding slotStamp
-stamp-new n i = new-other n (52 + i) (λ e. omega arith)
+stamp-new n i = new-stamp n (slotStampCell i) (λ e. omega (arith, e))

@@ -7,7 +7,7 @@ use lib.ListN.{set, replicate}
 use lib.Dec.{eqb, ltb}
 use Rattle.limits.specs as limits
 use Rattle.slots.specs.{firstSlot, secondSlot, thirdSlot, holdsObject, countsAbove, isFree, holdsAbove, isCompleted}
-use Rattle.stamp.specs.Stamps.{stampOf, largerOf}
+use Rattle.stamp.specs.Stamps.{stampOf, largerOf, setStamp}
 use Rattle.switch.specs.Numbers.{numberCell, counterCell, committedCell, directCell, slots, objectCell, slotStampCell, marksCell, switchCells}
 use Rattle.switch.specs.Numbers.{numberIn, counterIn, committedIn, slotObject, slotStamp, marksIn}
 
@@ -53,7 +53,7 @@ marksFor w i stamp = oneMore (countsAbove stamp (committedIn w)) (lessOne (count
 
 -- 'the counter rises by one, the object is marked'
 abbrev pub slotMarked : List ℕ → ℕ → ℕ → List ℕ
-slotMarked w o i = set (set (set w counterCell (counterIn w + 1)) (objectCell i) o) (slotStampCell i) (nextStamp w)
+slotMarked w o i = setStamp (set (set w counterCell (counterIn w + 1)) (objectCell i) o) (slotStampCell i) (nextStamp w)
 
 unfoldable pub marking : List ℕ → ℕ → ℕ → List ℕ
 marking w o i = set (slotMarked w o i) marksCell (marksFor w i (nextStamp w))
@@ -78,14 +78,14 @@ unfoldable pub countedMarks : List ℕ → ℕ
 countedMarks w = countedTo w (committedIn w) slots
 
 unfoldable pub clearedAt : List ℕ → ℕ → ℕ → ℕ → List ℕ
-clearedAt w o t i = cond (isCompleted (slotObject w i) (slotStamp w i) o t) (set w (slotStampCell i) 0) w
+clearedAt w o t i = cond (isCompleted (slotObject w i) (slotStamp w i) o t) (setStamp w (slotStampCell i) 0) w
 
 abbrev pub cleared : List ℕ → ℕ → ℕ → List ℕ
 cleared w o t = clearedAt (clearedAt (clearedAt w o t (firstSlot o)) o t (secondSlot o)) o t (thirdSlot o)
 
 -- 'Last-committed becomes the larger of the two. Direct reads are on from now.'
 unfoldable pub committing : List ℕ → ℕ → ℕ → List ℕ
-committing w o t = set (set (cleared w o t) committedCell (largerOf (committedIn w) t)) directCell 1
+committing w o t = set (setStamp (cleared w o t) committedCell (largerOf (committedIn w) t)) directCell 1
 
 -- Req 03: 'also when one completion stops several marks from counting': the stored number is counted anew
 unfoldable pub completed : List ℕ → ℕ → ℕ → List ℕ

@@ -1,10 +1,12 @@
 // The switch's numbers where the caller lends them.
 ghost use mathlib.Core.Path.{_≡_};
 ghost use Prim.Native.Nat.{_+_, _<_};
-ghost use Rattle.switch.specs.Numbers.{numberIn, counterIn, committedIn, directIn, marksIn, slotObject, slotStamp};
+ghost use Rattle.switch.specs.Numbers.{counterCell, objectCell, slotStampCell, marksCell, numberIn, counterIn, committedIn, directIn, marksIn, slotObject, slotStamp};
+ghost use Rattle.limits.specs.{lastCounter};
+ghost use Rattle.stamp.specs.Stamps.{stampIn, setStamp};
 ghost use lib.ListN.{set};
 ghost use Rattle.slots.specs.{holdsAbove};
-ghost use Rattle.switch.specs.DirtySet.{holdsAt, freeSlot, slotFor, lookedUp, lessOne, oneMore, marksFor, marked, stampFor, clearedAt, committing, completed, countedMarks};
+ghost use Rattle.switch.specs.DirtySet.{holdsAt, freeSlot, slotFor, lookedUp, lessOne, oneMore, marksFor, marked, stampFor, clearedAt, cleared, committing, completed, countedMarks};
 ghost use Rattle.switch.specs.Values.{switchOf};
 use crate::CELLS;
 use crate::COMMITTED;
@@ -30,6 +32,27 @@ use slots::is_free;
 use slots::second_slot;
 use slots::third_slot;
 
+// ---- stamps, in two cells each
+
+fn stamp_in(cells: &[u32; CELLS], at: usize) -> Stamp
+    requires { ⌜ at < marksCell ⌝ }
+    ensures { λ r. ⌜ r ≡ stampIn (now (cells .entry)) at ⌝ }
+{
+    let upper = cells[at];
+    let lower = cells[at + 1];
+    stamp::joined(upper, lower)
+}
+
+fn set_stamp(cells: &mut [u32; CELLS], at: usize, t: Stamp)
+    requires { ⌜ at < marksCell ⌝ }
+    ensures { λ _. ⌜ now (cells .exit) ≡ setStamp (now (cells .entry)) at t ⌝ }
+{
+    let upper = stamp::upper(t);
+    let lower = stamp::lower(t);
+    cells[at] = upper;
+    cells[at + 1] = lower;
+}
+
 // ---- single numbers
 
 pub fn number(cells: &[u32; CELLS]) -> Number
@@ -41,13 +64,13 @@ pub fn number(cells: &[u32; CELLS]) -> Number
 fn counter(cells: &[u32; CELLS]) -> Counter
     ensures { λ r. ⌜ r ≡ counterIn (now (cells .entry)) ⌝ }
 {
-    (cells[COUNTER] % 65536) as Counter
+    cells[COUNTER]
 }
 
 pub fn committed(cells: &[u32; CELLS]) -> Stamp
     ensures { λ r. ⌜ r ≡ committedIn (now (cells .entry)) ⌝ }
 {
-    cells[COMMITTED]
+    stamp_in(cells, COMMITTED)
 }
 
 pub fn is_direct(cells: &[u32; CELLS]) -> bool
@@ -74,7 +97,7 @@ fn stamp_at(cells: &[u32; CELLS], i: usize) -> Stamp
     requires { ⌜ i < 48 ⌝ }
     ensures { λ r. ⌜ r ≡ slotStamp (now (cells .entry)) i ⌝ }
 {
-    cells[STAMPS + i]
+    stamp_in(cells, STAMPS + 2 * i)
 }
 
 // ---- look-up
@@ -189,12 +212,12 @@ fn marks_for(cells: &[u32; CELLS], i: usize, stamp: Stamp) -> u32
 
 // Slot i takes the object and its write's stamp, and the counter moves on.
 fn put_mark(cells: &mut [u32; CELLS], o: Object, i: usize, counter: Counter, stamp: Stamp)
-    requires { ⌜ (i < 48) × (counter < 65535) ⌝ }
-    ensures { λ _. ⌜ now (cells .exit) ≡ set (set (set (now (cells .entry)) 1 (counter + 1)) (4 + i) o) (52 + i) stamp ⌝ }
+    requires { ⌜ (i < 48) × (counter < lastCounter) ⌝ }
+    ensures { λ _. ⌜ now (cells .exit) ≡ setStamp (set (set (now (cells .entry)) counterCell (counter + 1)) (objectCell i) o) (slotStampCell i) stamp ⌝ }
 {
-    cells[COUNTER] = counter as u32 + 1;
+    cells[COUNTER] = counter + 1;
     cells[OBJECTS + i] = o;
-    cells[STAMPS + i] = stamp;
+    set_stamp(&mut *cells, STAMPS + 2 * i, stamp);
 }
 
 // A write of the object gets the next stamp, and the object a mark with it; (0,0) where it is dropped.
@@ -224,19 +247,26 @@ fn clear(cells: &mut [u32; CELLS], o: Object, t: Stamp, i: usize)
     ensures { λ _. ⌜ now (cells .exit) ≡ clearedAt (now (cells .entry)) o t i ⌝ }
 {
     if is_completed(object_at(cells, i), stamp_at(cells, i), o, t) {
-        cells[STAMPS + i] = 0;
+        set_stamp(&mut *cells, STAMPS + 2 * i, 0);
     }
 }
 
-// The marks that it covers are cleared, last-committed rises, and direct reads are on.
+// The marks that it covers are cleared.
+fn clear_marks(cells: &mut [u32; CELLS], o: Object, t: Stamp)
+    ensures { λ _. ⌜ now (cells .exit) ≡ cleared (now (cells .entry)) o t ⌝ }
+{
+    clear(&mut *cells, o, t, first_slot(o));
+    clear(&mut *cells, o, t, second_slot(o));
+    clear(&mut *cells, o, t, third_slot(o));
+}
+
+// Besides, last-committed rises, and direct reads are on.
 fn commit(cells: &mut [u32; CELLS], o: Object, t: Stamp)
     ensures { λ _. ⌜ now (cells .exit) ≡ committing (now (cells .entry)) o t ⌝ }
 {
     let c = stamp::larger(committed(cells), t);
-    clear(&mut *cells, o, t, first_slot(o));
-    clear(&mut *cells, o, t, second_slot(o));
-    clear(&mut *cells, o, t, third_slot(o));
-    cells[COMMITTED] = c;
+    clear_marks(&mut *cells, o, t);
+    set_stamp(&mut *cells, COMMITTED, c);
     cells[DIRECT] = 1;
 }
 
@@ -259,7 +289,7 @@ fn count(cells: &[u32; CELLS]) -> u32
 
 // The stored number, counted anew: a completion may stop several marks at once.
 fn recount(cells: &mut [u32; CELLS])
-    ensures { λ _. ⌜ now (cells .exit) ≡ set (now (cells .entry)) 100 (countedMarks (now (cells .entry))) ⌝ }
+    ensures { λ _. ⌜ now (cells .exit) ≡ set (now (cells .entry)) marksCell (countedMarks (now (cells .entry))) ⌝ }
 {
     let marks = count(cells);
     cells[MARKS] = marks;

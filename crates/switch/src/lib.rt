@@ -19,15 +19,15 @@ pub const COUNTER: usize = 1;
 
 pub const COMMITTED: usize = 2;
 
-pub const DIRECT: usize = 3;
+pub const DIRECT: usize = 4;
 
-pub const OBJECTS: usize = 4;
+pub const OBJECTS: usize = 5;
 
-pub const STAMPS: usize = 52;
+pub const STAMPS: usize = 53;
 
-pub const MARKS: usize = 100;
+pub const MARKS: usize = 149;
 
-pub const CELLS: usize = 101;
+pub const CELLS: usize = 150;
 
 // The whole switch, slots included.
 pub struct Switch {

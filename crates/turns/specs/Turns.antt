@@ -74,9 +74,9 @@ firstPrinted m input =
 
 -- ---- every later record
 
--- the number of the next record; the last number of 32 bits stays, and no input has that many records
+-- the number of the next record; the last number of its width stays, and no input has that many records
 unfoldable pub nextNumber : ℕ → ℕ
-nextNumber k = cond (eqb k 4294967295) k (k + 1)
+nextNumber k = cond (eqb k limits.lastRecordNumber) k (k + 1)
 
 -- 'packets waiting, counting marks' are those after the step; Req 03: the line prints the stored number
 abbrev pub lineAfter : ℕ → Machine → Step → List ℕ

@@ -13,14 +13,14 @@ ghost use Rattle.lines.specs.Text.{putIn};
 ghost use Rattle.turns.specs.Turns.{nextNumber, readNext, replicasOf, stopped, startedWith, firstPrinted};
 ghost use Rattle.turns.specs.Contracts.{placeAfter, goesOn, Stands, oneTurn, Concludes, turnOf, goingOn, overRun, concluded};
 use limits::INPUT;
+use limits::LAST_RECORD_NUMBER;
+use limits::RecordNumber;
 use protocol::Refusal;
 use protocol::Step;
 use protocol::Stepped;
 use protocol::answers;
 use records::Next;
 use waiting::Packet;
-
-const LAST_NUMBER: u32 = 4294967295;
 
 pub const LAST_PLACE: usize = 18446744073709551615;
 
@@ -29,7 +29,7 @@ pub const LAST_PLACE: usize = 18446744073709551615;
 pub struct Run {
     pub count: usize,
     pub at: usize,
-    pub number: u32,
+    pub number: RecordNumber,
     pub over: bool,
     pub left: usize,
 }
@@ -57,10 +57,10 @@ fn one_fewer(turns: usize) -> usize
     turns - 1
 }
 
-fn next_number(k: u32) -> u32
+fn next_number(k: RecordNumber) -> RecordNumber
     ensures { λ r. ⌜ r ≡ nextNumber k ⌝ }
 {
-    if k == LAST_NUMBER {
+    if k == LAST_RECORD_NUMBER {
         return k;
     }
     k + 1
@@ -145,7 +145,7 @@ fn end(run: Run) -> Run
 }
 
 // The line of a record that is refused by 1, in the buffer. The place after it.
-fn put_malformed(out: &mut [u8], used: usize, number: u32) -> usize
+fn put_malformed(out: &mut [u8], used: usize, number: RecordNumber) -> usize
     ensures { λ r. ⌜ (r ≡ placeAfter used (length (noLine number (refusalNumber Format))))
         × (now (out .exit) ≡ putIn (now (out .entry)) used (noLine number (refusalNumber Format))) ⌝ }
 {
@@ -202,7 +202,7 @@ fn replicas_of(x: Step) -> u8
 }
 
 // Nothing is run: the line of a refusal goes to the buffer's start.
-fn stop(out: &mut [u8], number: u32, why: Refusal, turns: usize) -> Ran
+fn stop(out: &mut [u8], number: RecordNumber, why: Refusal, turns: usize) -> Ran
     ensures { λ r. ⌜ ((switch store opens : List ℕ) (row : List Packet) → Stands r switch store opens row (now (out .exit))
         (oneTurn turns (now (out .entry)) 0 (stopped (machine switch store opens (noneWait row)) (noLine number (refusalNumber why))))) ⌝ }
 {

@@ -20,7 +20,7 @@ waitingList packets count = record { packets = packets; count = count }
 
 -- the packet of a place that holds none
 abbrev pub blank : Packet
-blank = record { kind = 0; replica = 0; number = 0; operation = 0; object = 0; value = 0; stamp = 0; freshness = 0 }
+blank = record { kind = 0; replica = 0; number = 0; operation = 0; stamp = 0; object = 0; value = 0 }
 
 -- 'at most 64 packets': how many wait
 unfoldable pub heldIn : ℕ → ℕ

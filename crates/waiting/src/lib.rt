@@ -7,7 +7,6 @@ ghost use lib.ListN.{length, set};
 ghost use Rattle.lists.specs.{moves};
 ghost use Rattle.waiting.specs.Waiting.{blank, waitingList, heldIn, takesOut, fits, lookAt, edited};
 ghost use Rattle.waiting.specs.Plans.{still, planned, planOf};
-use limits::Freshness;
 use limits::Number;
 use limits::Object;
 use limits::Operation;
@@ -16,17 +15,16 @@ use limits::Stamp;
 use limits::Value;
 use limits::WAITING;
 
-// A packet of any kind: the machine above says which kinds there are and which fields each uses.
+// A packet of any kind: the machine above says which kinds there are and which fields each uses. 24 bytes, no padding.
 #[repr(C)]
 pub struct Packet {
     pub kind: u8,
     pub replica: Replica,
     pub number: Number,
     pub operation: Operation,
+    pub stamp: Stamp,
     pub object: Object,
     pub value: Value,
-    pub stamp: Stamp,
-    pub freshness: Freshness,
 }
 
 // What a step does to the list: the packet at `at` goes out if `take` says so, then `add` of the two packets come to the end.
@@ -58,10 +56,9 @@ impl Packet {
             replica: 0,
             number: 0,
             operation: 0,
+            stamp: 0,
             object: 0,
             value: 0,
-            stamp: 0,
-            freshness: 0,
         }
     }
 }

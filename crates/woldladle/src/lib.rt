@@ -3,7 +3,7 @@ ghost use mathlib.Core.Path.{_≡_};
 ghost use Rattle.session_lines.specs.{lineFor, putBytes};
 ghost use Rattle.numbered_records.specs.{recordRefusal, recordBuffer, contextRefusal, contextBuffer, recordSize};
 ghost use Rattle.store.specs.{liveCount};
-ghost use Rattle.replica_values.specs.{valueOf, stampIn, chainOf};
+ghost use Rattle.replica_values.specs.{valueOf, stampHeld, chainOf};
 ghost use Rattle.lines.specs.Text.{putIn};
 ghost use Rattle.waiting.specs.Waiting.{waitingList};
 ghost use Rattle.protocol.specs.Steps.{machine, after, steppedBy, startSwitch, startStore, startOpens};
@@ -56,7 +56,7 @@ pub extern "C" fn woldladle_step(
 // unchanged.
 #[no_mangle]
 pub extern "C" fn woldladle_line(
-    number: u32,
+    number: u64,
     refusal: u8,
     operation: u32,
     count: u32,
@@ -116,10 +116,10 @@ pub extern "C" fn woldladle_value(store: &[u32; store::CELLS], replica: u8, obje
     replica_values::value(store, replica, object)
 }
 
-// Its stamp: the switch number times 65,536, and the counter.
+// Its stamp: the switch number times 4,294,967,296, and the counter. Whatever the store holds, all that stands above the counter is the switch number.
 #[no_mangle]
-pub extern "C" fn woldladle_stamp(store: &[u32; store::CELLS], replica: u8, object: u32) -> u32
-    ensures { λ r. ⌜ r ≡ stampIn (now (store .entry)) replica object ⌝ }
+pub extern "C" fn woldladle_stamp(store: &[u32; store::CELLS], replica: u8, object: u32) -> u64
+    ensures { λ r. ⌜ r ≡ stampHeld (now (store .entry)) replica object ⌝ }
 {
     replica_values::stamp(store, replica, object)
 }

@@ -117,8 +117,7 @@ fn warn_of_gaps(task: &Task, tally: &Tally) {
         println!("refusal {number} never occurred");
     }
     let ages = [("old", tally.old), ("new", tally.new)];
-    let rows = tally.contexts.rows().into_iter().chain(tally.joins.rows());
-    for (word, times) in ages.into_iter().chain(rows) {
+    for (word, times) in ages.into_iter().chain(tally.rows()) {
         if times == 0 {
             println!("{word} never occurred");
         }

@@ -3,7 +3,7 @@
 use super::mood::*;
 use super::Random;
 use crate::model::{Few, Model, Objects, Packet, Stamp, Step, FULL, LAST_NUMBER, MOST, REPLICAS};
-use crate::records::{append, Record, LONGEST};
+use crate::records::{append, append_in_two_bytes, Record, LONGEST};
 
 /// Writes one file: the mood, the model as it stands, the bytes so far.
 pub struct Author {
@@ -14,7 +14,8 @@ pub struct Author {
 }
 
 /// Can whole records fill what is left after one of this size? They have 4, 5,
-/// 6 or 9 bytes; those with several objects or none are not counted on.
+/// 6 or 9 bytes; those with several objects or none, and give-ups, are not counted
+/// on.
 fn leaves_room(left: usize, size: usize) -> bool {
     let after = left.checked_sub(size);
     after.is_some_and(|after| !matches!(after, 1..=3 | 7))
@@ -63,8 +64,32 @@ impl Author {
         let start = [first, deliver, deliver];
         let steps = start.into_iter().chain(advances).chain([deliver, deliver]);
         for step in steps {
-            append(Record::Step(step), &mut self.bytes);
+            self.put(step);
             let _ = self.model.step(step);
+        }
+    }
+
+    /// Adds the record of a step; that of a give-up with length 2 as often as the
+    /// mood wants.
+    fn put(&mut self, step: Step) {
+        let short = match step {
+            Step::GiveUp { operation } => u16::try_from(operation).ok(),
+            _ => None,
+        };
+        match short {
+            Some(operation) if self.wants_two_bytes() => {
+                append_in_two_bytes(operation, &mut self.bytes);
+            }
+            _ => append(Record::Step(step), &mut self.bytes),
+        }
+    }
+
+    /// Nothing is drawn where it is all or none.
+    fn wants_two_bytes(&mut self) -> bool {
+        match self.mood.short {
+            0 => false,
+            1000 => true,
+            thousandths => self.random.chance(thousandths),
         }
     }
 
@@ -77,11 +102,11 @@ impl Author {
             let before = self.bytes.len();
             let left = length - before;
             let mut step = self.choose();
-            append(Record::Step(step), &mut self.bytes);
+            self.put(step);
             if left < 2 * LONGEST && !leaves_room(left, self.bytes.len() - before) {
                 self.bytes.truncate(before);
                 step = self.filler(left);
-                append(Record::Step(step), &mut self.bytes);
+                self.put(step);
             }
             let _ = self.model.step(step);
         }
@@ -299,7 +324,7 @@ impl Author {
         let object = self.random.one_of(&self.mood.objects);
         let value = match self.random.below(10) {
             0 => self.random.draw() as u32,
-            _ => u32::from(self.model.begun()) + 1,
+            _ => self.model.begun() + 1,
         };
         Step::Write { object, value }
     }
@@ -543,16 +568,44 @@ impl Author {
     }
 
     /// An open operation, if a few tries among the latest find one.
-    fn open_operation(&mut self) -> u16 {
-        let begun = usize::from(self.model.begun());
-        let latest = begun.min(100);
+    fn open_operation(&mut self) -> u32 {
         for _ in 0..20 {
-            let operation = (begun - self.random.within(0, latest)) as u16;
+            let operation = self.late_operation();
             if self.model.is_open(operation) {
                 return operation;
             }
         }
-        begun as u16
+        self.model.begun()
+    }
+
+    /// One of the latest operations, open or not.
+    fn late_operation(&mut self) -> u32 {
+        let begun = self.model.begun();
+        let latest = begun.min(100) as usize;
+        begun - self.random.within(0, latest) as u32
+    }
+
+    /// The one at a limit; if the mood wants others also a late one, one that has
+    /// an open operation's number in some of its bytes, or one above 65,535 or at
+    /// the end of all.
+    fn wild_operation(&mut self, limit: u32) -> u32 {
+        if !self.mood.far {
+            return limit;
+        }
+        let (open, late) = (self.open_operation(), self.late_operation());
+        let beside = [
+            open | 1 << 16,
+            open | 1 << 24,
+            open | 1 << 31,
+            open << 8,
+            open << 16,
+        ];
+        let beside = self.random.one_of(&beside);
+        let end = self
+            .random
+            .one_of(&[65_536, 65_537, u32::MAX - 1, u32::MAX]);
+        self.random
+            .one_of(&[limit, late, late, beside, beside, end])
     }
 
     /// A step with fields at their limits.
@@ -584,7 +637,9 @@ impl Author {
             },
             JOIN => Step::Join,
             COPY => Step::Copy,
-            _ => Step::GiveUp { operation },
+            _ => Step::GiveUp {
+                operation: self.wild_operation(operation),
+            },
         }
     }
 

@@ -51,7 +51,12 @@ pub struct Mood {
     /// that they meet a former tail.
     pub patient: usize,
     /// The most operations begun.
-    pub begins: u16,
+    pub begins: u32,
+    /// Of a thousand give-ups of operations that have two bytes, those with
+    /// length 2.
+    pub short: usize,
+    /// Do wild give-ups name operations above 65,535 and late ones?
+    pub far: bool,
 }
 
 /// The mood of a kind.
@@ -70,7 +75,9 @@ pub fn mood(kind: &str, random: &mut Random, length: usize) -> Mood {
         rounds: false,
         late: 0,
         patient: 0,
-        begins: u16::MAX,
+        begins: u32::MAX,
+        short: 0,
+        far: false,
     };
     mood.weights[REMOVE] = removal_weight(length, 3);
     match kind {
@@ -93,6 +100,7 @@ pub fn mood(kind: &str, random: &mut Random, length: usize) -> Mood {
         "joins" => join_often(&mut mood, random),
         "join-faults" => refuse_joins(&mut mood, random),
         "small-joins" => stay_small_with_joins(&mut mood, random, length),
+        "give-ups" => give_up_often(&mut mood, random),
         _ => {}
     }
     mood
@@ -223,7 +231,7 @@ fn go_round(mood: &mut Mood, random: &mut Random, length: usize) {
 fn stay_small(mood: &mut Mood, random: &mut Random, length: usize) {
     mood.replicas = random.one_of(&[1, 2, 2, 3, 3, 3, 4]);
     mood.objects = some_objects(random, 2);
-    mood.begins = random.within(5, 8) as u16;
+    mood.begins = random.within(5, 8) as u32;
     mood.waiting = random.within(2, 5);
     mood.linked = 0;
     mood.weights = [700, 450, 6000, 60, 200, 2500, 30, 2500, 0, 5, 0, 0, 0];
@@ -316,7 +324,7 @@ fn refuse_contexts(mood: &mut Mood, random: &mut Random, length: usize) {
 fn stay_small_with_contexts(mood: &mut Mood, random: &mut Random, length: usize) {
     stay_small(mood, random, length);
     mood.objects = different_objects(random, 2, 3);
-    mood.begins = random.within(8, 12) as u16;
+    mood.begins = random.within(8, 12) as u32;
     mood.weights[READ] = 400;
     mood.weights[WRITE] = 300;
     mood.weights[CONTEXT] = 1200;
@@ -376,12 +384,31 @@ fn stay_small_with_joins(mood: &mut Mood, random: &mut Random, length: usize) {
     stay_small(mood, random, length);
     mood.replicas = random.one_of(&[1, 1, 2, 2, 3]);
     mood.objects = different_objects(random, 2, 3);
-    mood.begins = random.within(7, 12) as u16;
+    mood.begins = random.within(7, 12) as u32;
     mood.weights[CONTEXT] = random.one_of(&[0, 0, 500]);
     mood.weights[JOIN] = 4000;
     mood.weights[COPY] = random.one_of(&[3000, 8000, 20_000]);
     mood.weights[REMOVE] = removal_weight(length, random.one_of(&[0, 1, 3, 6]));
     mood.patient = random.one_of(&[0, 800, 950]);
+}
+
+/// Give-ups of both lengths among other steps, of operations open or not; few
+/// operations are open, or many. Some runs have contexts and joins.
+fn give_up_often(mood: &mut Mood, random: &mut Random) {
+    mood.objects = different_objects(random, 2, 8);
+    mood.open = random.one_of(&[1, 4, 20, 63]);
+    mood.waiting = random.one_of(&[2, 10, 40, 64]);
+    mood.weights[REPEAT] = random.one_of(&[200, 1500]);
+    mood.weights[GIVE_UP] = random.one_of(&[400, 3000, 12_000]);
+    mood.weights[CONTEXT] = random.one_of(&[0, 0, 600]);
+    if mood.weights[CONTEXT] > 0 && random.chance(500) {
+        mood.weights[JOIN] = 300;
+        mood.weights[COPY] = 4000;
+    }
+    mood.orderly = random.one_of(&[100, 500, 900]);
+    mood.wild = random.one_of(&[20, 100, 400]);
+    mood.short = random.one_of(&[100, 500, 500, 900, 1000]);
+    mood.far = true;
 }
 
 #[cfg(test)]

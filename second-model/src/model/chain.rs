@@ -10,7 +10,7 @@ use std::collections::VecDeque;
 /// A write with its stamp, as a replica applies it and a link holds it.
 #[derive(Clone, Copy, Debug, PartialEq, Eq)]
 pub struct Write {
-    pub operation: u16,
+    pub operation: u32,
     pub object: u16,
     pub value: u32,
     pub stamp: Stamp,
@@ -215,11 +215,11 @@ impl Chain {
 mod tests {
     use super::*;
 
-    fn write(counter: u16) -> Write {
+    fn write(counter: u32) -> Write {
         Write {
             operation: counter,
             object: 7,
-            value: u32::from(counter) * 10,
+            value: counter * 10,
             stamp: Stamp::new(1, counter),
         }
     }
@@ -267,6 +267,7 @@ mod tests {
         assert_eq!(chain.accepting(1, Stamp::new(1, 2)), None);
         assert_eq!(chain.accepting(1, Stamp::new(1, 3)), Some(0));
         assert_eq!(chain.accepting(1, Stamp::new(2, 1)), Some(0));
+        assert_eq!(chain.accepting(1, Stamp::new(1, 65_537)), Some(0));
         assert_eq!(chain.accepting(4, Stamp::new(1, 3)), None);
     }
 

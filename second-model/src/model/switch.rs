@@ -1,5 +1,5 @@
 //! The switch and its marks (document 01, "The marks (dirty set)"; document 02,
-//! Req 01).
+//! Req 01 and Req 07).
 
 use super::Stamp;
 
@@ -16,7 +16,7 @@ pub(super) struct Switch {
     pub number: u16,
     pub committed: Stamp,
     pub direct_reads: bool,
-    counter: u16,
+    counter: u32,
     holders: [Option<u16>; SLOTS],
     stamps: [Stamp; SLOTS],
 }
@@ -80,6 +80,17 @@ impl Switch {
         }
         self.committed = self.committed.max(stamp);
         self.direct_reads = true;
+    }
+
+    /// The counter of the last stamp given, 0 if none.
+    pub fn counter(&self) -> u32 {
+        self.counter
+    }
+
+    /// Puts the counter somewhere, for tests only.
+    #[cfg(test)]
+    pub fn set_counter_for_tests(&mut self, counter: u32) {
+        self.counter = counter;
     }
 
     /// The number of counting marks, "counted over the slots".
@@ -193,10 +204,26 @@ mod tests {
     #[test]
     fn the_counter_stops_at_its_end() {
         let mut switch = Switch::new(1);
-        switch.counter = u16::MAX - 1;
-        assert_eq!(switch.mark(3), Some(Stamp::new(1, u16::MAX)));
-        assert_eq!(switch.mark(3), None);
-        assert_eq!(switch.counter, u16::MAX);
-        assert_eq!(switch.stamps[3], Stamp::new(1, u16::MAX));
+        switch.set_counter_for_tests(4_294_967_294);
+        let last = Stamp::new(1, 4_294_967_295);
+        assert_eq!(switch.mark(3), Some(last));
+        assert_eq!((switch.mark(3), switch.mark(4)), (None, None));
+        assert_eq!((switch.counter(), switch.counting()), (4_294_967_295, 1));
+        assert_eq!((switch.stamps[3], switch.holders[4]), (last, None));
+    }
+
+    /// The stamps on both sides of 65,535 rise, and a completion of the lower
+    /// leaves the mark of the higher.
+    #[test]
+    fn the_counter_goes_on_beyond_65535() {
+        let mut switch = Switch::new(1);
+        switch.set_counter_for_tests(65_534);
+        let (low, high) = (Stamp::new(1, 65_535), Stamp::new(1, 65_536));
+        assert_eq!((switch.mark(3), switch.mark(3)), (Some(low), Some(high)));
+        assert!(low < high);
+        switch.complete(3, low);
+        assert_eq!(switch.counting_mark(3), Some(high));
+        switch.complete(3, high);
+        assert_eq!((switch.counting_mark(3), switch.committed), (None, high));
     }
 }

@@ -1,7 +1,8 @@
-//! The rules of document 01, and of Req 01, Req 02 and Req 04 of document 02, at
-//! the level of single steps, worked out by hand.
+//! The rules of document 01, and of Req 01, Req 02, Req 04 and Req 07 of document
+//! 02, at the level of single steps, worked out by hand.
 
 mod joins;
+mod soaks;
 
 use super::*;
 
@@ -16,13 +17,13 @@ fn no(refusal: Refusal) -> Answer {
 }
 
 /// A write finished.
-fn written(operation: u16, value: u32) -> Answer {
+fn written(operation: u32, value: u32) -> Answer {
     done(operation, &[value], Way::Write)
 }
 
 /// An operation finished with these values, in this way, by a reply that
 /// carries nothing.
-fn done(operation: u16, values: &[u32], way: Way) -> Answer {
+fn done(operation: u32, values: &[u32], way: Way) -> Answer {
     Ok(Some(Finished {
         operation,
         values: Few::new(values),
@@ -32,7 +33,7 @@ fn done(operation: u16, values: &[u32], way: Way) -> Answer {
 }
 
 /// A read that the switch sent to the tail finished with this age.
-fn aged(operation: u16, value: u32, age: Age) -> Answer {
+fn aged(operation: u32, value: u32, age: Age) -> Answer {
     Ok(Some(Finished {
         operation,
         values: Few::one(value),
@@ -42,7 +43,7 @@ fn aged(operation: u16, value: u32, age: Age) -> Answer {
 }
 
 /// A reply that carries nothing.
-fn plain_reply(operation: u16, values: &[u32], way: Way) -> Packet {
+fn plain_reply(operation: u32, values: &[u32], way: Way) -> Packet {
     Packet::Reply {
         operation,
         values: Few::new(values),
@@ -53,7 +54,7 @@ fn plain_reply(operation: u16, values: &[u32], way: Way) -> Packet {
 }
 
 /// A normal read that carries nothing.
-fn plain_read(to: u8, operation: u16, objects: &[u16], way: Way) -> Packet {
+fn plain_read(to: u8, operation: u32, objects: &[u16], way: Way) -> Packet {
     Packet::NormalRead {
         to,
         operation,
@@ -126,6 +127,9 @@ impl Model {
 #[test]
 fn p1_stamps_compare_by_switch_number_first() {
     assert!(Stamp::new(1, 65_535) < Stamp::new(2, 1));
+    assert!(Stamp::new(1, 65_535) < Stamp::new(1, 65_536));
+    assert!(Stamp::new(1, 4_294_967_295) < Stamp::new(2, 0));
+    assert_eq!(Stamp::new(65_535, 4_294_967_295).switch(), 65_535);
     assert!(Stamp::new(1, 3) < Stamp::new(1, 4));
     assert!(Stamp::ZERO < Stamp::new(0, 1));
 }
@@ -227,29 +231,6 @@ fn p11_choice_by_chain_place() {
         };
         assert_eq!(to, replica);
     }
-}
-
-#[test]
-fn refusal_4_and_the_last_number() {
-    let mut model = model(1);
-    model.begun = 65_534;
-    assert_eq!(model.read(7), OK);
-    assert_eq!((model.begun(), model.is_open(65_535)), (65_535, true));
-    assert_eq!(model.read(7), no(Refusal::NumbersUsedUp));
-    assert_eq!(model.read(1024), no(Refusal::BadObject));
-    let operation = 65_535;
-    assert_eq!(model.step(Step::GiveUp { operation }), OK);
-    assert_eq!(model.open(), 0);
-    assert_eq!(model.write(7, 1), no(Refusal::NumbersUsedUp));
-}
-
-#[test]
-fn refusal_4_comes_before_5_and_6() {
-    let mut model = model(1);
-    (0..64).for_each(|_| assert_eq!(model.read(7), OK));
-    assert_eq!(model.read(7), no(Refusal::TooManyOpen));
-    model.begun = 65_535;
-    assert_eq!(model.read(7), no(Refusal::NumbersUsedUp));
 }
 
 #[test]
@@ -355,7 +336,7 @@ fn a_read_and_its_reply_carry_the_mark_s_stamp() {
         }
         assert_eq!(model.direct_reads(), on);
         model.write_at_head(5, 9);
-        let mark = Some(Stamp::new(1, 1 + u16::from(on)));
+        let mark = Some(Stamp::new(1, 1 + u32::from(on)));
         assert_eq!(model.counting_mark(5), mark);
         let operation = model.begun() + 1;
         assert_eq!(model.read(5), OK);
@@ -444,7 +425,7 @@ fn contexts_of_two_to_eight_objects() {
 fn another_number_of_objects_comes_before_all_else() {
     let mut model = model(1);
     (0..64).for_each(|_| assert_eq!(model.read(7), OK));
-    model.begun = 65_535;
+    model.begun = u32::MAX;
     for objects in [&[][..], &[1024], &[1024; 9], &[5; 9]] {
         assert_eq!(model.context(objects), no(Refusal::BadRecord));
     }
@@ -456,7 +437,7 @@ fn another_number_of_objects_comes_before_all_else() {
 fn the_order_of_refusals_of_a_context() {
     let mut model = model(1);
     (0..64).for_each(|_| assert_eq!(model.read(7), OK));
-    model.begun = 65_535;
+    model.begun = u32::MAX;
     assert_eq!(model.context(&[1024, 1024]), no(Refusal::BadObject));
     assert_eq!(model.context(&[5, 5, 1024]), no(Refusal::BadObject));
     assert_eq!(model.context(&[5, 6, 5]), no(Refusal::NamedTwice));

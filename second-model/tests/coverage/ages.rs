@@ -46,7 +46,7 @@ pub const WANTED: [(&str, usize); 34] = [
 pub const NEVER: [&str; 1] = ["sent: direct reads off, mark overtaken"];
 
 /// A read sent to the tail with a stamp: the operation and the stamp.
-type Carrier = (u16, Stamp);
+type Carrier = (u32, Stamp);
 
 /// What held when it was sent.
 struct Sent {
@@ -62,7 +62,7 @@ pub struct Ages {
     repeated: BTreeSet<Carrier>,
     answered: BTreeMap<Carrier, Age>,
     differing: BTreeSet<Carrier>,
-    rejected: BTreeSet<u16>,
+    rejected: BTreeSet<u32>,
     lost: BTreeSet<Stamp>,
     delivered: Option<Packet>,
 }
@@ -123,7 +123,7 @@ impl Ages {
     }
 
     /// A read at the switch.
-    fn sending(&mut self, model: &Model, operation: u16, object: u16) -> Events {
+    fn sending(&mut self, model: &Model, operation: u32, object: u16) -> Events {
         let direct_reads = model.direct_reads();
         let Some(mark) = model.counting_mark(object) else {
             return match (direct_reads, pending(model, object)) {
@@ -149,7 +149,7 @@ impl Ages {
     }
 
     /// A direct read at a replica.
-    fn direct(&mut self, model: &Model, operation: u16, object: u16, rejected: bool) -> Events {
+    fn direct(&mut self, model: &Model, operation: u32, object: u16, rejected: bool) -> Events {
         if !rejected {
             self.rejected.remove(&operation);
             return vec![];

@@ -88,15 +88,15 @@ type Events = Vec<&'static str>;
 /// The contexts of a run so far.
 #[derive(Default)]
 pub struct Contexts {
-    begun: BTreeSet<u16>,
-    answers: BTreeMap<u16, Values>,
-    unlike: BTreeSet<u16>,
-    finished: BTreeMap<u16, Values>,
+    begun: BTreeSet<u32>,
+    answers: BTreeMap<u32, Values>,
+    unlike: BTreeSet<u32>,
+    finished: BTreeMap<u32, Values>,
     delivered: Option<Packet>,
 }
 
 /// The operation of a packet of a context.
-fn operation_of(packet: &Packet) -> Option<u16> {
+fn operation_of(packet: &Packet) -> Option<u32> {
     let (operation, count) = match *packet {
         Packet::Read { operation, objects }
         | Packet::DirectRead {
@@ -310,7 +310,7 @@ impl Contexts {
     }
 
     /// The reply of a context delivered.
-    fn replied(&mut self, operation: u16, values: Values, answer: Answer) -> &'static str {
+    fn replied(&mut self, operation: u32, values: Values, answer: Answer) -> &'static str {
         let finished: Option<Finished> = answer.expect("a reply is not refused");
         let Some(finished) = finished else {
             return match self.finished.get(&operation) {

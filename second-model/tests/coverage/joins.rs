@@ -72,8 +72,8 @@ type Events = Vec<&'static str>;
 pub struct Joins {
     joined: BTreeSet<u8>,
     last: Option<End>,
-    sent_on: BTreeSet<(u16, u8)>,
-    former: BTreeSet<(u16, u8)>,
+    sent_on: BTreeSet<(u32, u8)>,
+    former: BTreeSet<(u32, u8)>,
     under_way: Meanwhile,
 }
 

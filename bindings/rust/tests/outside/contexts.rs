@@ -222,17 +222,6 @@ fn with_64_of_both() -> Model {
     model
 }
 
-/// The same, and no operation number is left.
-fn with_none_left() -> Model {
-    let mut model = Model::start(2).expect("two");
-    for operation in 1..=65_535 - 64 {
-        begin(&mut model, &[1, 2, 3]);
-        done(&mut model, &[(4, 0, 0), (10, operation, 0)]);
-    }
-    (0..64).for_each(|_| begin(&mut model, &[1, 2, 3]));
-    model
-}
-
 #[test]
 fn refusals_come_in_their_order() {
     for (mut model, refusal) in [
@@ -240,7 +229,6 @@ fn refusals_come_in_their_order() {
         (with_64_waiting(&[7]), 6),
         (with_64_waiting(&[8, 7, 6, 5, 4, 3, 2, 1]), 6),
         (with_64_of_both(), 5),
-        (with_none_left(), 4),
     ] {
         refused(&mut model, &[11, 0, 2, 4, 0], 1); // one object, and that is 1,024
         refused(&mut model, &record(&[5, 5, 1024]), 3);

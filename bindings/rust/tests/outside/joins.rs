@@ -1,8 +1,8 @@
 //! Joins (document 02, Req 04): their records and refusals, what the newcomer holds
 //! at each point, and the chain before and after. A stamp is the switch number
-//! times 65,536, and the counter: (1,1) is 65,537.
+//! times 4,294,967,296, and the counter.
 
-use super::{deliver, done, finished, line, lines, refused, whole};
+use super::{deliver, done, finished, line, lines, refused, stamp, whole};
 use second_model::generate::{generate, Random};
 use second_model::model::{self, Held, Stamp};
 use second_model::records::{self, Record};
@@ -23,7 +23,7 @@ fn chain(live: &[u8], newcomer: Option<(u8, u8)>) -> Chain {
 }
 
 /// Value and stamp of an object at a replica.
-fn held(model: &Model, replica: u8, object: u32) -> (u32, u32) {
+fn held(model: &Model, replica: u8, object: u32) -> (u32, u64) {
     (model.value(replica, object), model.stamp(replica, object))
 }
 
@@ -106,43 +106,43 @@ fn a_newcomer_takes_copies_and_writes_and_becomes_the_tail() {
     assert_eq!(held(&model, 3, 5), (0, 0));
     done(&mut model, &[COPY]); // objects 0 to 63
     assert_eq!(model.chain(), chain(&[1, 2], Some((3, 1))));
-    assert_eq!(held(&model, 3, 5), (9, 65_537));
+    assert_eq!(held(&model, 3, 5), (9, stamp(1, 1)));
     assert_eq!(held(&model, 3, 100), (0, 0));
 
     // a write of object 5 gets to the newcomer when the tail applies it
     done(&mut model, &[(2, 5, 8), (3, 0, 0), (3, 0, 0)]);
-    assert_eq!(held(&model, 1, 5), (8, 65_539));
-    assert_eq!(held(&model, 2, 5), (9, 65_537));
-    assert_eq!(held(&model, 3, 5), (9, 65_537));
+    assert_eq!(held(&model, 1, 5), (8, stamp(1, 3)));
+    assert_eq!(held(&model, 2, 5), (9, stamp(1, 1)));
+    assert_eq!(held(&model, 3, 5), (9, stamp(1, 1)));
     done(&mut model, &[(6, 2, 0)]);
-    assert_eq!(held(&model, 2, 5), (8, 65_539));
-    assert_eq!(held(&model, 3, 5), (8, 65_539));
+    assert_eq!(held(&model, 2, 5), (8, stamp(1, 3)));
+    assert_eq!(held(&model, 3, 5), (8, stamp(1, 3)));
     let written = finished(3, 8, Freshness::None);
     assert_eq!(deliver(&mut model, 0), written);
     done(&mut model, &[(3, 0, 0)]);
 
     // .. and one of object 100 with its copy
     write(&mut model, &[1, 2], 4, 100, 6);
-    assert_eq!(held(&model, 2, 100), (6, 65_540));
+    assert_eq!(held(&model, 2, 100), (6, stamp(1, 4)));
     assert_eq!(held(&model, 3, 100), (0, 0));
     for copies in 2..16 {
         done(&mut model, &[COPY]);
         assert_eq!(model.chain(), chain(&[1, 2], Some((3, copies))));
-        assert_eq!(held(&model, 3, 100), (6, 65_540));
+        assert_eq!(held(&model, 3, 100), (6, stamp(1, 4)));
     }
     done(&mut model, &[COPY]);
     assert_eq!(model.chain(), chain(&[1, 2, 3], None));
     for object in 0..1024 {
         assert_eq!(held(&model, 3, object), held(&model, 2, object));
     }
-    assert_eq!(held(&model, 3, 5), (8, 65_539));
+    assert_eq!(held(&model, 3, 5), (8, stamp(1, 3)));
 
     // a write now goes down to the new tail, which alone replies
     done(&mut model, &[(2, 7, 5), (3, 0, 0), (3, 0, 0), (6, 2, 0)]);
     assert_eq!((model.waiting(), model.marks()), (0, 1));
     assert_eq!((model.value(2, 7), model.value(3, 7)), (5, 0));
     done(&mut model, &[(6, 3, 0)]);
-    assert_eq!(held(&model, 3, 7), (5, 65_541));
+    assert_eq!(held(&model, 3, 7), (5, stamp(1, 5)));
     let written = finished(5, 5, Freshness::None);
     assert_eq!(deliver(&mut model, 0), written);
     done(&mut model, &[(3, 0, 0)]);
@@ -156,7 +156,7 @@ fn joined_alone() -> Model {
     done(&mut model, &[(9, 1, 0)]); // remove the head
     assert_eq!(model.chain(), chain(&[2, 3], None));
     assert_eq!(held(&model, 1, 5), (0, 0));
-    assert_eq!(held(&model, 2, 5), (9, 65_537));
+    assert_eq!(held(&model, 2, 5), (9, stamp(1, 1)));
     done(&mut model, &[(9, 2, 0)]); // .. and the old tail
     assert_eq!(model.chain(), chain(&[3], None));
     assert_eq!(held(&model, 2, 5), (0, 0));
@@ -166,13 +166,13 @@ fn joined_alone() -> Model {
 #[test]
 fn the_joined_replica_goes_on_alone() {
     let mut model = joined_alone();
-    assert_eq!(held(&model, 3, 5), (9, 65_537));
-    assert_eq!(held(&model, 3, 100), (7, 65_538));
+    assert_eq!(held(&model, 3, 5), (9, stamp(1, 1)));
+    assert_eq!(held(&model, 3, 100), (7, stamp(1, 2)));
     done(&mut model, &[(1, 5, 0), (3, 0, 0), (3, 0, 0)]);
     let read = finished(3, 9, Freshness::None);
     assert_eq!(deliver(&mut model, 0), read);
     write(&mut model, &[3], 4, 5, 8);
-    assert_eq!(held(&model, 3, 5), (8, 65_539));
+    assert_eq!(held(&model, 3, 5), (8, stamp(1, 3)));
 }
 
 /// The rows of replicas 1 and 2 hold what they held; the next two newcomers show
@@ -187,7 +187,7 @@ fn a_newcomer_shows_nothing_of_those_before_it() {
             assert_eq!(held(&model, number, object), (0, 0));
         }
         done(&mut model, &[COPY]);
-        assert_eq!(held(&model, number, 5), (9, 65_537));
+        assert_eq!(held(&model, number, 5), (9, stamp(1, 1)));
         assert_eq!(held(&model, number, 100), (0, 0));
         done(&mut model, &[COPY; 15]);
     }
@@ -205,7 +205,7 @@ fn each_copy_brings_the_next_64_objects() {
         assert_eq!(model.chain(), chain(&[1], Some((2, copies))));
         for object in 0..1024 {
             let expected = if object < 64 * u32::from(copies) {
-                (5000 + object, 65_536 + object + 1)
+                (5000 + object, stamp(1, object + 1))
             } else {
                 (0, 0)
             };
@@ -215,7 +215,7 @@ fn each_copy_brings_the_next_64_objects() {
         done(&mut model, &[COPY]);
     }
     assert_eq!(model.chain(), chain(&[1, 2], None));
-    assert_eq!(held(&model, 2, 1023), (6023, 66_560));
+    assert_eq!(held(&model, 2, 1023), (6023, stamp(1, 1024)));
     assert_eq!(held(&model, 2, 1024), (0, 0));
 }
 
@@ -225,7 +225,7 @@ fn each_copy_brings_the_next_64_objects() {
 fn removing_the_tail_ends_the_join() {
     let mut model = two_written();
     done(&mut model, &[JOIN, COPY, COPY]);
-    assert_eq!(held(&model, 3, 100), (7, 65_538));
+    assert_eq!(held(&model, 3, 100), (7, stamp(1, 2)));
     done(&mut model, &[(9, 2, 0)]);
     assert_eq!(model.chain(), chain(&[1], None));
     for replica in [2, 3] {
@@ -239,7 +239,7 @@ fn removing_the_tail_ends_the_join() {
     assert_eq!(held(&model, 4, 5), (0, 0));
     done(&mut model, &[COPY; 16]);
     assert_eq!(model.chain(), chain(&[1, 4], None));
-    assert_eq!(held(&model, 4, 100), (7, 65_538));
+    assert_eq!(held(&model, 4, 100), (7, stamp(1, 2)));
 }
 
 #[test]
@@ -359,7 +359,7 @@ fn numbers_are_given_up_to_255() {
         done(&mut model, &[COPY; 16]);
         done(&mut model, &[(9, u32::from(number) - 1, 0)]);
         assert_eq!(model.chain(), chain(&[number], None));
-        assert_eq!(held(&model, number, 5), (9, 65_537));
+        assert_eq!(held(&model, number, 5), (9, stamp(1, 1)));
         assert_eq!(held(&model, number - 1, 5), (0, 0));
     }
     refused(&mut model, &[12, 0, 0], 17);
@@ -383,7 +383,7 @@ fn agree(model: &Model, second: &model::Model, random: &mut Random) {
     for replica in (0..=255).filter(|r| *r < 12 || *r > 250 || live.contains(r)) {
         for object in some {
             let (value, stamp) = held(model, replica, object.into());
-            let stamp = Stamp::new((stamp >> 16) as u16, stamp as u16);
+            let stamp = Stamp::new((stamp >> 32) as u16, stamp as u32);
             let expected = if newcomer == Some(replica) {
                 let copied = object < second.copied();
                 second.held_by_newcomer(object).filter(|_| copied)

@@ -5,7 +5,7 @@ use Rattle.examples.proofs.output_room.Statement.{statement}
 use Rattle.examples.proofs.output_room.Tie as tie
 
 returns : tie.Need-returns
-returns c = sym (length-replicate {A = ℕ} 3014656 0)
+returns c = sym (length-replicate {A = ℕ} 3276800 0)
 
 pub output-room-spec : {M : Type 1} → statement M
 output-room-spec = tie.close (tie.spec returns)

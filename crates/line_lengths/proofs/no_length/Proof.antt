@@ -5,7 +5,7 @@ use Rattle.line_lengths.proofs.no_length.Statement.{statement}
 use Rattle.line_lengths.proofs.no_length.Tie as tie
 
 returns : tie.Need-returns
-returns c = let a = c .before .before .args in omega (arith, no-length (a .number) (a .refusal), c .before .digits-of .ensures .0, c .digits-of2 .ensures .0)
+returns c = let a = c .before .before .args in omega (arith, no-length (a .number) (a .refusal), c .before .long-digits-of .ensures .0, c .digits-of .ensures .0)
 
 pub no-length-spec : {M : Type 1} → statement M
 no-length-spec =

@@ -5,7 +5,7 @@ use Rattle.line_lengths.proofs.ok_length.Statement.{statement}
 use Rattle.line_lengths.proofs.ok_length.Tie as tie
 
 returns : tie.Need-returns
-returns c = let a = c .before .before .before .args in (omega (arith, ok-length (a .number) (a .waiting) (a .marks), c .before .before .digits-of .ensures .0, c .before .digits-of2 .ensures .0, c .digits-of3 .ensures .0), omega arith)
+returns c = let a = c .before .before .before .args in (omega (arith, ok-length (a .number) (a .waiting) (a .marks), c .before .before .long-digits-of .ensures .0, c .before .digits-of .ensures .0, c .digits-of2 .ensures .0), omega arith)
 
 pub ok-length-spec : {M : Type 1} → statement M
 ok-length-spec =

@@ -1,5 +1,7 @@
+use native.Mathlib.Omega.{arith}
 use borrow.Author.Needs.{needs}
-use Rattle.line_lengths.proofs.Numbers.{decimal-one}
+use Rattle.line_lengths.specs.Lines.{decimal}
+use Rattle.line_lengths.proofs.Numbers.{decimal-places, decimal-one}
 use Rattle.lines.proofs.put_number.Statement.{statement}
 use Rattle.lines.proofs.put_number.Tie as tie
 
@@ -11,6 +13,15 @@ put-byte-requires c κs =
 returns : tie.Need-returns
 returns c = rw (decimal-one (c .before .before .before .before .before .before .args .n) (c .before .before .before .before .if1 .taken)) (c .before .before .put-byte .ensures)
 
+put-digits-requires : tie.Need-put-digits-requires
+put-digits-requires c κs =
+    let k = c .digits-of .ensures in
+    (omega (arith, k .0, decimal-places (c .before .before .before .before .args .n), c .before .before .before .before .pre), omega (arith, k .1))
+
+returns-2 : tie.Need-returns-2
+unfolding decimal
+returns-2 c = rw (c .before .before .before .digits-of .ensures .0) at (c .before .before .put-digits .ensures)
+
 pub put-number-spec : {M : Type 1} → statement M
 put-number-spec =
     tie.close
@@ -21,5 +32,6 @@ put-number-spec =
     (λ c. search needs)
     returns
     (λ c κs. search needs)
+    put-digits-requires
     (λ c. search needs)
-    (λ c. search needs))
+    returns-2)

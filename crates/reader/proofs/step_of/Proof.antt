@@ -57,7 +57,7 @@ step-of-spec =
     (λ c. simp (c .before .match .keys8, ← c .two-at6 .ensures))
     (λ c. simp (c .before .match .keys9, ← c .byte-at4 .ensures))
     (λ c. simp (c .before .match .keys10, ← c .byte-at5 .ensures))
-    (λ c. simp (c .before .match .keys11, ← c .two-at7 .ensures))
+    (λ c. simp (c .before .match .keys11, ← c .operation-in .ensures))
     (λ c. simp (c .match .keys12))
     (λ c. simp (c .match .keys13))
     begin-context)

@@ -7,4 +7,4 @@ returns c = simp (← c .before .before .packet-of .ensures, ← c .before .pack
 
 pub answers-spec : {M : Type 1} → statement M
 answers-spec =
-    tie.close (tie.spec (λ c κs. search needs) (λ c κs. search needs) (λ c κs. search needs) returns)
+    tie.close (tie.spec (λ c. search needs) (λ c κs. search needs) (λ c κs. search needs) (λ c κs. search needs) returns)

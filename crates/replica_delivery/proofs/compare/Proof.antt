@@ -17,4 +17,4 @@ unfolding freshness
 returns-3 c = simp (ne-eqb _ _ (c .before .before .if1 .left), ← c .before .above .ensures, c .if2 .left)
 
 pub compare-spec : {M : Type 1} → statement M
-compare-spec = tie.close (tie.spec returns (λ c κs. search needs) returns-2 returns-3)
+compare-spec = tie.close (tie.spec (λ c. search needs) returns (λ c κs. search needs) (λ c. search needs) returns-2 (λ c. search needs) returns-3)

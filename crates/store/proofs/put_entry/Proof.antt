@@ -5,22 +5,7 @@ use Rattle.store.proofs.put_entry.Tie as tie
 
 returns : tie.Need-returns
 unfolding logged
-returns c = simp (← c .before .before .before .entry-cell .ensures .0, ← c .before .before .entry-cell2 .ensures .0, ← c .before .entry-cell3 .ensures .0, c .entry-cell4 .ensures .0)
+returns c = simp (← c .before .before .before .before .before .entry-cell .ensures .0, ← c .before .before .before .before .entry-cell2 .ensures .0, ← c .before .before .before .entry-cell3 .ensures .0, ← c .before .before .entry-stamp-cell .ensures .0, ← c .set-stamp .ensures)
 
 pub put-entry-spec : {M : Type 1} → statement M
-put-entry-spec =
-    tie.close
-    (tie.spec
-    (λ c κs. search needs)
-    (λ c. search needs)
-    (λ c. search needs)
-    (λ c κs. search needs)
-    (λ c. search needs)
-    (λ c. search needs)
-    (λ c κs. search needs)
-    (λ c. search needs)
-    (λ c. search needs)
-    (λ c κs. search needs)
-    (λ c. search needs)
-    (λ c. search needs)
-    returns)
+put-entry-spec = tie.close (tie.spec (λ c κs. search needs) (λ c. search needs) (λ c. search needs) (λ c κs. search needs) (λ c. search needs) (λ c. search needs) (λ c κs. search needs) (λ c. search needs) (λ c. search needs) (λ c κs. search needs) (λ c κs. search needs) returns)

@@ -5,8 +5,7 @@ use Rattle.store.proofs.read_stamp.Tie as tie
 
 returns : tie.Need-returns
 unfolding stampAt
-returns c = simp (← c .before .stamp-cell .ensures .0)
+returns c = simp (← c .before .stamp-cell .ensures .0, ← c .stamp-in .ensures)
 
 pub read-stamp-spec : {M : Type 1} → statement M
-read-stamp-spec =
-    tie.close (tie.spec (λ c κs. search needs) (λ c. search needs) (λ c. search needs) returns)
+read-stamp-spec = tie.close (tie.spec (λ c κs. search needs) (λ c κs. search needs) returns)

@@ -9,5 +9,4 @@ unfolding stampCell
 returns c = simp (c .row .ensures .0) (refl, search needs)
 
 pub stamp-cell-spec : {M : Type 1} → statement M
-stamp-cell-spec =
-    tie.close (tie.spec (λ c κs. search needs) (λ c. search needs) (λ c. search needs) (λ c. search needs) (λ c. search needs) returns)
+stamp-cell-spec = tie.close (tie.spec (λ c κs. search needs) (λ c. search needs) (λ c. search needs) (λ c. search needs) (λ c. search needs) (λ c. search needs) returns)

@@ -80,11 +80,11 @@ mod tests {
     use super::*;
     use crate::model::Stamp;
 
-    fn write(object: u16, counter: u16) -> Write {
+    fn write(object: u16, counter: u32) -> Write {
         Write {
             operation: counter,
             object,
-            value: u32::from(counter) * 10,
+            value: counter * 10,
             stamp: Stamp::new(1, counter),
         }
     }
@@ -92,7 +92,7 @@ mod tests {
     /// A tail that holds each object with its own stamp.
     fn tail() -> Replica {
         let mut tail = Replica::new(3);
-        (0..OBJECTS).for_each(|object| tail.apply(write(object, object + 1)));
+        (0..OBJECTS).for_each(|object| tail.apply(write(object, u32::from(object) + 1)));
         tail
     }
 

@@ -51,7 +51,7 @@ record-of-spec =
     (λ c. simp (c .before .before .step8 .given .1, c .two-bytes4 .ensures, c .before .before .before .before .kind-of .ensures))
     (λ c. simp (c .before .before .step9 .given .1, c .one-byte3 .ensures, c .before .before .before .before .kind-of .ensures))
     (λ c. simp (c .before .before .step10 .given .1, c .one-byte4 .ensures, c .before .before .before .before .kind-of .ensures))
-    (λ c. simp (c .before .before .step11 .given .1, c .two-bytes5 .ensures, c .before .before .before .before .kind-of .ensures))
+    (λ c. simp (c .before .before .step11 .given .1, c .four-bytes .ensures, c .before .before .before .before .kind-of .ensures))
     begin-context
     (λ c. simp (c .before .enum-told .given .1, c .header .ensures, c .before .before .before .kind-of .ensures))
     (λ c. simp (c .before .enum-told2 .given .1, c .header2 .ensures, c .before .before .before .kind-of .ensures)))

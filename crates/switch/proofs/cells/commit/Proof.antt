@@ -5,20 +5,7 @@ use Rattle.switch.proofs.cells.commit.Tie as tie
 
 returns : tie.Need-returns
 unfolding committing
-returns c = simp (← c .before .before .before .before .before .before .before .before .before .before .committed .ensures, ← c .before .before .before .before .before .before .before .before .before .larger .ensures, ← c .before .before .before .before .before .before .before .first-slot .ensures .0, ← c .before .before .before .before .before .before .clear .ensures, ← c .before .before .before .before .second-slot .ensures .0, ← c .before .before .before .clear2 .ensures, ← c .before .third-slot .ensures .0, ← c .clear3 .ensures)
+returns c = simp (← c .before .before .before .before .before .committed .ensures, ← c .before .before .before .before .larger .ensures, ← c .before .before .clear-marks .ensures, ← c .set-stamp .ensures)
 
 pub commit-spec : {M : Type 1} → statement M
-commit-spec =
-    tie.close
-    (tie.spec
-    (λ c κs. search needs)
-    (λ c κs. search needs)
-    (λ c κs. search needs)
-    (λ c κs. search needs)
-    (λ c κs. search needs)
-    (λ c κs. search needs)
-    (λ c κs. search needs)
-    (λ c κs. search needs)
-    (λ c. search needs)
-    (λ c. search needs)
-    returns)
+commit-spec = tie.close (tie.spec (λ c κs. search needs) (λ c κs. search needs) (λ c κs. search needs) (λ c κs. search needs) (λ c. search needs) returns)

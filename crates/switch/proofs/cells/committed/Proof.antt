@@ -1,4 +1,3 @@
-use mathlib.Core.Path.{refl}
 use Rattle.switch.specs.Numbers.{committedIn}
 use borrow.Author.Needs.{needs}
 use Rattle.switch.proofs.cells.committed.Statement.{statement}
@@ -6,7 +5,7 @@ use Rattle.switch.proofs.cells.committed.Tie as tie
 
 returns : tie.Need-returns
 unfolding committedIn
-returns c = refl
+returns c = c .stamp-in .ensures
 
 pub committed-spec : {M : Type 1} → statement M
-committed-spec = tie.close (tie.spec (λ c. search needs) returns)
+committed-spec = tie.close (tie.spec (λ c κs. search needs) returns)

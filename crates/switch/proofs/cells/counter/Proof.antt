@@ -9,4 +9,4 @@ unfolding counterIn
 returns c = refl
 
 pub counter-spec : {M : Type 1} → statement M
-counter-spec = tie.close (tie.spec (λ c. search needs) (λ c. search needs) returns)
+counter-spec = tie.close (tie.spec (λ c. search needs) returns)
