@@ -1,7 +1,7 @@
 /* The proved model, for callers in C, on x86-64. Two archives, of which a caller links one or both:
  *
  *   target/staticlib/libwoldladle.a        sessions, step by step (`rt staticlib woldladle` writes it)
- *   target/staticlib/libwoldladle_runs.a   whole runs, woldladle_run (`rt staticlib woldladle_runs`)
+ *   target/staticlib/libwoldladle_runs.a   whole runs, woldladle_run and woldladle_draw (`rt staticlib woldladle_runs`)
  *
  * What a session is lent, and nothing else: the libraries allocate no memory and keep nothing between calls.
  *
@@ -103,6 +103,12 @@ uint8_t woldladle_chain(const uint32_t *store, uint8_t out[WOLDLADLE_CHAIN]);
 /* Everything that the run program prints for a file of records. How many bytes the whole output has, whatever `room` is: `out` holds its whole lines, from the front up
  * to the first that does not fit, and every byte after them is as it was. It takes 73 KB of stack. */
 size_t woldladle_run(const uint8_t *input, size_t length, uint8_t *out, size_t room);
+
+/* The records of a start with n replicas and of `steps` random steps, the same for the same seed on every machine, at the start of `out`; bytes beyond stay as they were. How
+ * many bytes they have; or minus the refusal, and `out` is as it was: -2 where n is not 1 to 8, then -20 above 7,000 steps, then -15 where `length` is less than they have.
+ * WOLDLADLE_LONGEST_INPUT bytes are room for any. Each draw is (seed times 1,664,525 plus 1,013,904,223) mod 2^32, and the next seed; tags 1 to 10 are drawn. */
+#define WOLDLADLE_MOST_STEPS 7000
+int64_t woldladle_draw(uint32_t seed, uint64_t n, uint64_t steps, uint8_t *out, size_t length);
 
 /* All that a session is lent, and the calls over it. The switch begins with a cache line: where it lay across the end of a page, the average step took a tenth longer. */
 struct __attribute__((aligned(64))) woldladle_model {

@@ -1,7 +1,10 @@
 //! Compares another run program with this model on random files, and looks for
 //! an order on small runs.
 
+mod answers;
+pub mod draws;
 mod shorten;
+pub mod threads;
 
 pub use shorten::shorten;
 

@@ -1,8 +1,10 @@
 //! A second model of the session store machine of document 01, with Req 01, Req
-//! 02, Req 04 and Req 07 of document 02: one switch, one chain of replicas, packets
-//! in every order.
+//! 02, Req 04, Req 07 and Req 08 of document 02: one switch, one chain of replicas,
+//! packets in every order.
 
+pub mod command;
 pub mod compare;
+pub mod draw;
 pub mod examples;
 pub mod generate;
 pub mod model;

@@ -66,7 +66,7 @@ pub enum Step {
     Copy,
 }
 
-/// The rows of "Turned down", by their numbers.
+/// The rows of "Turned down" and those that requests add, by their numbers.
 #[derive(Clone, Copy, Debug, PartialEq, Eq)]
 #[repr(u8)]
 pub enum Refusal {
@@ -89,6 +89,7 @@ pub enum Refusal {
     NoNewcomer = 17,
     JoinUnderWay = 18,
     NoJoin = 19,
+    TooManySteps = 20,
 }
 
 impl Refusal {

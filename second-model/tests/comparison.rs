@@ -1,6 +1,7 @@
-//! `compare` agrees with this model's own program, and can fail.
+//! `compare` and `compare-draws` agree with this model's own programs, and can fail.
 
 use second_model::compare::printed;
+use second_model::draw::draw;
 use second_model::examples::all;
 use second_model::generate::generate;
 use second_model::order::{find_order, history};
@@ -237,4 +238,69 @@ fn a_program_that_prints_nothing_is_found() {
 fn a_program_that_is_not_there_is_an_error() {
     let run = compare("/no/such/program", &["--files", "2"]);
     assert_eq!(run.status.code(), Some(2));
+}
+
+fn compare_draws(draw: &str, run: &str, draws: &str) -> Output {
+    let mut command = Command::new(env!("CARGO_BIN_EXE_compare-draws"));
+    command.args([draw, run, "--draws", draws, "--seed", "5"]);
+    command.output().unwrap()
+}
+
+#[test]
+fn no_difference_with_its_own_draws() {
+    let (draw, run) = (
+        env!("CARGO_BIN_EXE_second-draw"),
+        env!("CARGO_BIN_EXE_second-run"),
+    );
+    let compared = compare_draws(draw, run, "600");
+    let text = text(&compared);
+    assert_eq!(compared.status.code(), Some(0), "{text}");
+    assert!(text.starts_with("seed 5\ncompared 600 draws (12 refused), "));
+    let last = text.lines().last().unwrap();
+    assert!(last.ends_with(" operations finished in them"), "{last}");
+    assert!(!last.contains("lines of 0 runs") && !last.contains(" 0 operations"));
+}
+
+/// A drawing program that uses the lower bits, one that writes nothing, and a run
+/// program that prints nothing.
+#[test]
+fn wrong_draws_and_wrong_lines_are_found() {
+    let (draw, run) = (
+        env!("CARGO_BIN_EXE_second-draw"),
+        env!("CARGO_BIN_EXE_second-run"),
+    );
+    let wrong = env!("CARGO_BIN_EXE_wrong-draw");
+    for (draw, run, about) in [
+        (wrong, run, "difference on draw "),
+        ("/bin/true", run, "difference on draw "),
+        (draw, "/bin/true", "difference on run of draw "),
+    ] {
+        let compared = compare_draws(draw, run, "200");
+        let text = text(&compared);
+        assert_eq!(compared.status.code(), Some(1), "{draw} {run}: {text}");
+        assert!(text.contains(about), "{draw} {run}: {text}");
+    }
+    let compared = compare_draws("/no/such/program", run, "200");
+    assert_eq!(compared.status.code(), Some(2));
+}
+
+/// Bytes, refusals and usage of the drawing program, with their exit status.
+#[test]
+fn what_the_drawing_program_answers() {
+    let answer = |words: &[&str]| {
+        let mut command = Command::new(env!("CARGO_BIN_EXE_second-draw"));
+        let output = command.args(words).output().unwrap();
+        let error = String::from_utf8(output.stderr).unwrap();
+        (output.status.code(), output.stdout, error)
+    };
+    let bytes = draw(7, 3, 4).unwrap();
+    assert_eq!(answer(&["7", "3", "4"]), (Some(0), bytes, String::new()));
+    let refused = |line: &str| (Some(1), vec![], String::from(line));
+    assert_eq!(answer(&["7", "9", "7001"]), refused("no 2\n"));
+    assert_eq!(answer(&["7", "3", "7001"]), refused("no 20\n"));
+    for words in [&["7", "3"][..], &["4294967296", "3", "4"], &["7", "3", "x"]] {
+        let (status, bytes, error) = answer(words);
+        assert_eq!((status, bytes), (Some(2), vec![]));
+        assert_eq!(error, "usage: second-draw SEED N STEPS\n");
+    }
 }

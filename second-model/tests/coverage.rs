@@ -1,11 +1,14 @@
 //! The random files reach every rule of document 01 and each way it drops, reads
 //! of every age in many situations (document 02, Req 01), reads of contexts in as
-//! many (Req 02), joins (Req 04), and give-ups of both lengths (Req 07).
+//! many (Req 02), joins (Req 04), and give-ups of both lengths (Req 07); and how
+//! far drawn runs get (Req 08).
 
 #[path = "coverage/ages.rs"]
 mod ages;
 #[path = "coverage/contexts.rs"]
 mod contexts;
+#[path = "coverage/draws.rs"]
+mod draws;
 #[path = "coverage/give_ups.rs"]
 mod give_ups;
 #[path = "coverage/joins.rs"]

@@ -312,6 +312,20 @@ pub fn run(input: &[u8], out: &mut [u8]) -> usize {
     unsafe { raw::woldladle_run(input.as_ptr(), input.len(), out.as_mut_ptr(), out.len()) }
 }
 
+/// The most steps of a drawn run.
+pub const MOST_STEPS: u64 = 7000;
+
+/// The records of a start with `n` replicas and of so many random steps, the same
+/// for the same seed on every machine, at the start of `out`: how many bytes they
+/// have, or refusal 2 where `n` is not 1 to 8, then 20 above `MOST_STEPS`, then 15
+/// where `out` is too short. A refusal leaves `out` as it was, and what is written
+/// every byte beyond. `LONGEST_INPUT` bytes are room for any.
+pub fn draw(seed: u32, n: u64, steps: u64, out: &mut [u8]) -> Result<usize, u8> {
+    let (to, room) = (out.as_mut_ptr(), out.len());
+    let answer = unsafe { raw::woldladle_draw(seed, n, steps, to, room) };
+    usize::try_from(answer).map_err(|_| answer.unsigned_abs() as u8)
+}
+
 #[cfg(test)]
 mod tests {
     use super::*;

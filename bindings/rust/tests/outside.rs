@@ -1,9 +1,11 @@
 //! The two libraries from outside, in one program: the same lines as the second
 //! model, refusals that change nothing, and what a file of records cannot reach.
-//! Reads of several objects and joins have modules of their own.
+//! Reads of several objects, joins and drawn runs have modules of their own.
 
 #[path = "outside/contexts.rs"]
 mod contexts;
+#[path = "outside/draws.rs"]
+mod draws;
 #[path = "outside/joins.rs"]
 mod joins;
 
