@@ -8,18 +8,19 @@ use native.Mathlib.Omega.{arith}
 use lib.Dec.{eqb}
 use lib.ListN.{length, take, length-append}
 use lib.Seq.{slice}
+use borrow.Author.Tests.{eqb-false}
 use Rattle.history.specs.History.{_∈_, reads, writes, History, begun, finished}
 use Rattle.history.proofs.Lists.{here, there, cases-cons, cases-append, only-member}
 use Rattle.history.proofs.Tests.{by-test}
 use Rattle.history.proofs.Entries.{Entry, Unfinished}
 use Rattle.history.proofs.Growth.{older, begun-not-finished}
-use Rattle.stamp.specs.Stamps.{isAbove}
-use Rattle.stamp.proofs.Laws.{larger-is, above-false}
+use Rattle.stamp.specs.Stamps.{numberOf, isAbove}
+use Rattle.stamp.proofs.Laws.{number-of-stamp, larger-is, above-false}
 use Rattle.lists.specs.{allOf}
 use Rattle.lists.proofs.AllOf.{all-member}
 use Rattle.switch.specs.Numbers.{numberIn, counterIn, committedIn, directIn}
 use Rattle.switch.specs.DirtySet.{lookedUp, marked, stampFor, completed}
-use Rattle.switch.proofs.Laws.{marked-committed, marked-counter, completed-committed, completed-counter}
+use Rattle.switch.proofs.Laws.{SizedSwitch, stamp-used, marked-number, marked-committed, marked-counter, completed-number, completed-committed, completed-counter}
 use Rattle.switch.proofs.Counted.{SwitchInvariant, invariant-marked, invariant-completed}
 use Rattle.operations.specs.{isOpen, lastGiven, closing}
 use Rattle.operations.proofs.Behind.{SameOpens, same-self, same-last, same-open, same-once}
@@ -62,13 +63,13 @@ use Rattle.linearizability.proofs.Packets.{AnsweredContext, rowNumbers,
 use Rattle.linearizability.proofs.Core.{map-same, Core, core-add, core-rows, core-direct, core-normal, context-direct, context-normal, core-accept, core-commit, core-lose, core-leave, core-turn, core-stamp}
 use Rattle.linearizability.proofs.Order.{core-outcome, core-finishes, context-finishes}
 use Rattle.linearizability.proofs.Waits.{messages, front, back, Stands, stands-in, taken-out, taken-out-add, taken-out-add-two}
-use Rattle.linearizability.proofs.Invariant.{Placed, Books, Good, done, madeVisible, Then, order-stays, good-refused, posted-lost, posted-add, placed-by}
+use Rattle.linearizability.proofs.Invariant.{Placed, Books, SwitchHolds, Good, done, madeVisible, Then, order-stays, good-refused, posted-lost, posted-add, placed-by}
 
 -- the invariant, from what the list then holds
 pub good-of : {k : Machine} {h : History} {es : List Entry} (issued log : List Write) (n : ℕ) (ms : List Message) → messages (k .waiting) ≡ ms
     → Core h es issued log n ms (committedIn (k .switch)) (k .opens) → Shows (k .store) log n → JoinInvariant (k .store)
     → ((p : Message) → p ∈ ms → Placed (k .store) p)
-    → Books (k .opens) h → counterIn (k .switch) + unstamped ms ≤ lastGiven (k .opens) → SwitchInvariant (k .switch) → waiting.Exact (k .waiting) → Good k h es
+    → Books (k .opens) h → counterIn (k .switch) + unstamped ms ≤ lastGiven (k .opens) → SwitchHolds issued (k .switch) → waiting.Exact (k .waiting) → Good k h es
 good-of issued log n ms e c s j p b u z x =
     record { issued = issued; log = log; n = n; core = rw e c; shown = s; joined = j; posted = rw e p; books = b; counted = rw e u; switch-holds = z; exact = x }
 
@@ -157,7 +158,7 @@ module _ {m : Machine} {h : History} {es : List Entry} (g : Good m h es) {at : �
   After u = Then (Deliver at choice) m h es u
 
   -- the message is dropped, and the switch may change
-  good-switched : (w : List ℕ) → Core h es (g .issued) (g .log) (g .n) rest (committedIn w) (m .opens) → counterIn w ≤ counterIn (m .switch) → SwitchInvariant w
+  good-switched : (w : List ℕ) → Core h es (g .issued) (g .log) (g .n) rest (committedIn w) (m .opens) → counterIn w ≤ counterIn (m .switch) → SwitchHolds (g .issued) w
       → After (changingSwitch (givenBy m) (switched (dropping at) w))
   unfolding dropping rest
   good-switched w k c z =
@@ -170,7 +171,7 @@ module _ {m : Machine} {h : History} {es : List Entry} (g : Good m h es) {at : �
 
   -- another message comes of it
   good-passed : (w : List ℕ) (q : Message) (issued : List Write) → Core h es issued (g .log) (g .n) (rest ++ q ∷ []) (committedIn w) (m .opens)
-      → Placed (m .store) q → unstampedOne q ≡ 0 → counterIn w ≤ counterIn (m .switch) + unstampedOne msg → SwitchInvariant w
+      → Placed (m .store) q → unstampedOne q ≡ 0 → counterIn w ≤ counterIn (m .switch) + unstampedOne msg → SwitchHolds issued w
       → After (changingSwitch (givenBy m) (switched (passing at q) w))
   unfolding passing rest
   good-passed w q issued k p u c z =
@@ -361,17 +362,37 @@ good-message {m} {h} {es} g {at} choice (UnstampedWrite o x v) i =
     by-test (λ (u : Switched). After g choice i (changingSwitch (givenBy m) u)) (allPermit (m .store) (numberIn (m .switch))) _ _
     (λ e. by-test (λ (d : Decision). After g choice i (changingSwitch (givenBy m) (switched d (marked (m .switch) x)))) (eqb (stampFor (m .switch) x) 0) _ _
     (λ none. good-switched g choice i (marked (m .switch) x) (rw (marked-committed (m .switch) x) (lost g choice i))
-    (omega (arith, counter true none)) (invariant-marked (m .switch) x (g .switch-holds)))
+    (omega (arith, counter true none)) (record { invariant = invariant; numbers = older-numbers }))
     (λ some. good-passed g choice i (marked (m .switch) x) (StampedWrite (headNumber (m .store)) w) (g .issued ++ w ∷ [])
     (rw (marked-committed (m .switch) x) (core-stamp (front at (m .waiting)) (back at (m .waiting)) w (headNumber (m .store)) (whole g choice i)))
-    (at-head-sent (m .store) (g .joined .places) (g .shown .live)) refl (omega (arith, counter false some)) (invariant-marked (m .switch) x (g .switch-holds))))
+    (at-head-sent (m .store) (g .joined .places) (g .shown .live)) refl (omega (arith, counter false some)) (record { invariant = invariant; numbers = every-number some })))
     (λ e. good-dropped g choice i)
   where
     w : Write
     w = record { operation = o; object = x; value = v; stamp = stampFor (m .switch) x }
 
+    invariant : SwitchInvariant (marked (m .switch) x)
+    invariant = invariant-marked (m .switch) x (g .switch-holds .invariant)
+
+    older-numbers : (u : Write) → u ∈ g .issued → numberOf (u .stamp) ≤ numberIn (marked (m .switch) x)
+    older-numbers u j = omega (arith, marked-number (m .switch) x, g .switch-holds .numbers u j)
+
+    -- the stamp that the write gets bears the present switch's number
+    own-number : (u : Write) → u ≡ w → eqb (stampFor (m .switch) x) 0 ≡ false → numberOf (u .stamp) ≤ numberIn (marked (m .switch) x)
+    own-number u e some =
+        let stamp = ap (λ (z : Write). z .stamp) e ∙ stamp-used (m .switch) x (eqb-false (stampFor (m .switch) x) 0 some) in
+        omega (
+          arith,
+          marked-number (m .switch) x,
+          ap numberOf stamp,
+          number-of-stamp (numberIn (m .switch)) (counterIn (m .switch) + 1) (omega (arith, fewer g choice i, g .books .few)),
+        )
+
+    every-number : eqb (stampFor (m .switch) x) 0 ≡ false → (u : Write) → u ∈ g .issued ++ w ∷ [] → numberOf (u .stamp) ≤ numberIn (marked (m .switch) x)
+    every-number some u j = elim (cases-append (g .issued) j) [ inl old ↦ older-numbers u old | inr new ↦ own-number u (only-member new) some ]
+
     counter : (b : Bool) → eqb (stampFor (m .switch) x) 0 ≡ b → counterIn (marked (m .switch) x) ≡ cond b (counterIn (m .switch)) (counterIn (m .switch) + 1)
-    counter b e = marked-counter (m .switch) x (g .switch-holds .sized) ∙ ap (λ (c : Bool). cond c (counterIn (m .switch)) (counterIn (m .switch) + 1)) e
+    counter b e = marked-counter (m .switch) x (g .switch-holds .invariant .sized) ∙ ap (λ (c : Bool). cond c (counterIn (m .switch)) (counterIn (m .switch) + 1)) e
 good-message {m} {h} {es} g {at} choice (SwitchRead o x) i =
     by-test P (directIn (m .switch)) _ _
     (λ e. by-test P (eqb (lookedUp (m .switch) x) 0) _ _
@@ -453,8 +474,15 @@ good-message {m} {h} {es} g {at} choice (NormalRead r o x c) i =
         (core-normal (lost g choice i) o x c (freshness (stamps (take (g .n) (g .log)) x) c) f (new-from (stamps (take (g .n) (g .log)) x) c))
 good-message {m} {h} {es} g {at} choice (Completion x t) i =
     good-switched g choice i (completed (m .switch) x t)
-    (rw (completed-committed (m .switch) x t (g .switch-holds .sized), larger-is (committedIn (m .switch)) t) (core-commit (lost g choice i) t (fine g choice i)))
-    (omega (arith, completed-counter (m .switch) x t (g .switch-holds .sized))) (invariant-completed (m .switch) x t (g .switch-holds .sized))
+    (rw (completed-committed (m .switch) x t sized, larger-is (committedIn (m .switch)) t) (core-commit (lost g choice i) t (fine g choice i)))
+    (omega (arith, completed-counter (m .switch) x t sized))
+    (record {
+      invariant = invariant-completed (m .switch) x t sized;
+      numbers = λ u j. omega (arith, completed-number (m .switch) x t sized, g .switch-holds .numbers u j);
+    })
+  where
+    sized : SizedSwitch (m .switch)
+    sized = g .switch-holds .invariant .sized
 good-message {m} {h} {es} g {at} choice (Reply o v c f) i = go (isOpen (m .opens) o) refl
   where
     go : (b : Bool) → isOpen (m .opens) o ≡ b → After g choice i (changingOpens (givenBy m) (reply (m .opens) at o v f))

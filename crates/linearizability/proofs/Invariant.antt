@@ -11,7 +11,8 @@ use Rattle.history.specs.History.{_∈_, Kind, reads, writes, History, begun, f
 use Rattle.history.proofs.Lists.{in-insert, cases-append, only-member}
 use Rattle.history.proofs.Entries.{Entry, New, Unfinished}
 use Rattle.history.proofs.Growth.{finished-begun}
-use Rattle.switch.specs.Numbers.{counterIn, committedIn}
+use Rattle.stamp.specs.Stamps.{numberOf}
+use Rattle.switch.specs.Numbers.{numberIn, counterIn, committedIn}
 use Rattle.switch.proofs.Counted.{SwitchInvariant}
 use Rattle.operations.specs.{isOpen, lastGiven}
 use Rattle.operations.proofs.Laws.{SizedOpens, OpenOnce}
@@ -80,6 +81,12 @@ pub record Books (opens : List ℕ) (h : History) : Type 0 where
   pub ranged : (o : ℕ) (k : Kind) → begun o k ∈ h → InRange k
   pub ends-once : EndsOnce h
 
+-- what holds of the switch; issued are the writes ever stamped
+pub record SwitchHolds (issued : List Write) (w : List ℕ) : Type 0 where
+  pub invariant : SwitchInvariant w
+  -- a stamp bears the present switch's number or a former one's, which is below it
+  pub numbers : (u : Write) → u ∈ issued → numberOf (u .stamp) ≤ numberIn w
+
 -- es is the order; issued are the writes ever stamped, log those that the head has applied, and the tail has applied the first n
 pub record Good (m : Machine) (h : History) (es : List Entry) : Type 0 where
   pub issued : List Write
@@ -93,7 +100,7 @@ pub record Good (m : Machine) (h : History) (es : List Entry) : Type 0 where
   pub books : Books (m .opens) h
   -- each stamp that the switch gave and each unstamped write that waits has an operation of its own
   pub counted : counterIn (m .switch) + unstamped (messages (m .waiting)) ≤ lastGiven (m .opens)
-  pub switch-holds : SwitchInvariant (m .switch)
+  pub switch-holds : SwitchHolds issued (m .switch)
   pub exact : waiting.Exact (m .waiting)
 
 -- ---- one step

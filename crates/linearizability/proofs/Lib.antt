@@ -19,3 +19,4 @@ pub mod Edits
 pub mod Rows
 pub mod Freshness
 pub mod NewTail
+pub mod OwnCompletion

@@ -89,11 +89,11 @@ module _ (n : ℕ) (low : 1 ≤ n) (high : n ≤ 8) (row : List Packet) (xs : Li
 
   -- Req 03: the stored number 'must equal the count over the slots after every step of a run'
   pub marks-counted : marksIn (machineOf n row xs .switch) ≡ countedMarks (machineOf n row xs .switch)
-  marks-counted = good-run .switch-holds .stored
+  marks-counted = good-run .switch-holds .invariant .stored
 
   -- so 'In a run printed numbers are as before': what any further step hands back is the count over the slots after it
   pub marks-handed-back : (x : Step) → steppedBy (machineOf n row xs) x .marks ≡ countedMarks (after (machineOf n row xs) x .switch)
-  marks-handed-back x = good-after good-run x .switch-holds .stored
+  marks-handed-back x = good-after good-run x .switch-holds .invariant .stored
 
   -- a live replica has applied no more writes than there are operations ..
   pub positions-within : (r : ℕ) → isLive (machineOf n row xs .store) r ≡ true → appliedBy (machineOf n row xs .store) r ≤ lastGiven (machineOf n row xs .opens)

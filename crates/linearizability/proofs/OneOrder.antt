@@ -52,7 +52,7 @@ good-start n low high row =
       ranged = λ o k i. absurd (no-member i);
       ends-once = tt;
     })
-    (omega (arith, new-counter 1)) (invariant-new 1) (exact-none row)
+    (omega (arith, new-counter 1)) (record { invariant = invariant-new 1; numbers = λ u i. absurd (no-member i) }) (exact-none row)
 
 -- one step of the machine keeps the invariant
 pub good-after : {m : Machine} {h : History} {es : List Entry} → Good m h es → (x : Step) → Good (after m x) (noted x (answerTo m x) h) (orderNext m (after m x) (answerTo m x) h es)

@@ -18,7 +18,7 @@ use Rattle.history.proofs.Entries.{Entry, Unfinished}
 use Rattle.history.proofs.Growth.{older, begun-not-finished}
 use Rattle.switch.specs.Numbers.{numberIn, committedIn}
 use Rattle.switch.specs.DirtySet.{newSwitch}
-use Rattle.switch.proofs.Laws.{new-counter, new-committed}
+use Rattle.switch.proofs.Laws.{new-number as new-switch-number, new-counter, new-committed}
 use Rattle.switch.proofs.Counted.{invariant-new}
 use Rattle.operations.specs.{isOpen, lastGiven, roomToOpen, opening, closing}
 use Rattle.operations.proofs.Behind.{same-last}
@@ -518,15 +518,20 @@ module _ {m : Machine} {h : History} {es : List Entry} (g : Good m h es) where
 
 -- ---- the switch is replaced, and an operation is given up
 
-good-replace : {m : Machine} {h : History} {es : List Entry} (g : Good m h es) (number : ℕ) → Then (Replace number) m h es (changingSwitch (givenBy m) (replacing (m .switch) number))
+good-replace : {m : Machine} {h : History} {es : List Entry} (g : Good m h es) (number : ℕ) → number < limits.switchNumbers → Then (Replace number) m h es (changingSwitch (givenBy m) (replacing (m .switch) number))
 unfolding replacing
-good-replace {m} {h} {es} g number =
+good-replace {m} {h} {es} g number short =
     by-test (λ (u : Switched). Then (Replace number) m h es (changingSwitch (givenBy m) u)) (leb number (numberIn (m .switch))) _ _
     (λ e. good-refused (Replace number) SwitchNumber g)
     (λ e.
     rw (order-stays m (done m (changingSwitch (givenBy m) (switched (deciding noEdit) (newSwitch number)))) es refl)
     (good-of (g .issued) (g .log) (g .n) (messages (m .waiting)) (ap messages (edited-nothing (m .waiting))) (rw (new-committed number) (core-reset (g .core)))
-    (g .shown) (g .joined) (g .posted) (g .books) (omega (arith, g .counted, new-counter number)) (invariant-new number) (waiting.exact-edited (m .waiting) noEdit (g .exact))))
+    (g .shown) (g .joined) (g .posted) (g .books) (omega (arith, g .counted, new-counter number))
+    (record {
+      invariant = invariant-new number;
+      numbers = λ u i. omega (arith, g .switch-holds .numbers u i, leb-false number (numberIn (m .switch)) e, new-switch-number number short);
+    })
+    (waiting.exact-edited (m .waiting) noEdit (g .exact))))
 
 good-give-up : {m : Machine} {h : History} {es : List Entry} (g : Good m h es) (o : ℕ) → Then (GiveUp o) m h es (changingOpens (givenBy m) (givingUp (m .opens) o))
 unfolding givingUp
@@ -556,7 +561,7 @@ good-decided g wide (Deliver at choice) some = good-deliver g wide at choice
 good-decided g wide (Lose at) some = good-lose g wide at
 good-decided g wide (Repeat at) some = good-repeat g wide at
 good-decided g wide (Advance r) some = good-advance g r wide
-good-decided g wide (Replace number) some = good-replace g number
+good-decided g wide (Replace number) some = good-replace g number (leb-false limits.switchNumbers number some)
 good-decided g wide (Tell r) some = good-tell g r
 good-decided g wide (Remove r) some = good-remove g r
 good-decided g wide (GiveUp o) some = good-give-up g o

@@ -17,7 +17,7 @@ use Rattle.replicas.specs.Replicas.{linkedWrites, accepts, nextPosition, applyi
 use Rattle.joins.specs.{isJoining, copiesMade, isCopied, handingOn, joinEnded, without}
 use Rattle.switch.specs.Numbers.{slots, marksCell, numberIn, counterIn, committedIn, directIn, marksIn, slotObject, slotStamp}
 use Rattle.slots.specs.{firstSlot, secondSlot, thirdSlot, holdsObject, countsAbove, isFree, holdsAbove, isCompleted}
-use Rattle.switch.specs.DirtySet.{freeSlot, slotFor, markAbove, lookedUp, nextStamp, lessOne, oneMore, marksFor, marking, canMark, marked, stampFor, clearedAt, committing, completed, newSwitch, countedTo, countedMarks}
+use Rattle.switch.specs.DirtySet.{freeSlot, slotFor, markAbove, lookedUp, nextStamp, lessOne, oneMore, marksFor, marking, canMark, marked, stampFor, clearedAt, isOwn, raising, committing, completed, newSwitch, countedTo, countedMarks}
 use Rattle.waiting.specs.declared.Packet.{Packet}
 use Rattle.waiting.specs.Waiting.{WaitingList, waitingList, heldIn, held, blank, noneWait, lookAt, takesOut, leftBy, fits, afterTaking, adding, edited}
 use Rattle.protocol.specs.declared.Answer.{Answer}
@@ -244,5 +244,5 @@ pub record PointsHold : Type 0 where
   pub marks-points-hold : allHold 1 7 marks-points ≡ true
 
 pub holds : PointsHold
-unfolding points allHold allTrue gives lone copies emptyList markedAll switchOfP4 switchOfP7 storeOfP6 readOfP6 sends writeOfP10 storeOfP11 stampOf numberOf counterOf isAbove largerOf stampIn setStamp entryStampCell noneOpen openCount lastGiven roomToOpen indexOf listOf moves entryCell valueCell stampCell storeCells liveCount orderAt numberAt members rowOf highestOf permittedBy appliedBy valueAt stampAt logged tabled raised memberAt headOf tailOf numbers placeOfNumber isMember isTail tableOf numberInChain headNumber tailNumber chosenBy removed emptyCells numbered emptyStore linkedWrites accepts nextPosition applying taking answersDirect numberIn counterIn committedIn slotObject slotStamp firstSlot secondSlot thirdSlot holdsObject countsAbove isFree holdsAbove freeSlot slotFor markAbove lookedUp nextStamp marking canMark marked isCompleted clearedAt completed newSwitch countedTo countedMarks heldIn noneWait lookAt takesOut leftBy fits afterTaking adding edited packetOf messageOf isUnstamped isOfContext refusing passing overfull directRead stampedWrite deliveredMessage startRefused startAnswer beginOperation delivered copied repeated positionOf isMalformed decided decidedIn answerTo after context-points naming beginContext allOf placeOf sizeOf numbersOf isCount isObject areObjects standsFirst areDifferent emptyAt isNaming rowCell sizeAt freeRow opening marks-points stored several marksAfter marksIn lessOne oneMore marksFor committing leaving released dropping stamping unstampedWrite switchRead normalRead completion reply lost advancing pendingAt oldest handingOn isCopied isJoining copiesMade joinEnded without replacing telling permitting removing givingUp stampFor asking allPermit permits directIn isOpen openPlace openNumbers
+unfolding points allHold allTrue gives lone copies emptyList markedAll switchOfP4 switchOfP7 storeOfP6 readOfP6 sends writeOfP10 storeOfP11 stampOf numberOf counterOf isAbove largerOf stampIn setStamp entryStampCell noneOpen openCount lastGiven roomToOpen indexOf listOf moves entryCell valueCell stampCell storeCells liveCount orderAt numberAt members rowOf highestOf permittedBy appliedBy valueAt stampAt logged tabled raised memberAt headOf tailOf numbers placeOfNumber isMember isTail tableOf numberInChain headNumber tailNumber chosenBy removed emptyCells numbered emptyStore linkedWrites accepts nextPosition applying taking answersDirect numberIn counterIn committedIn slotObject slotStamp firstSlot secondSlot thirdSlot holdsObject countsAbove isFree holdsAbove freeSlot slotFor markAbove lookedUp nextStamp marking canMark marked isCompleted clearedAt completed newSwitch countedTo countedMarks heldIn noneWait lookAt takesOut leftBy fits afterTaking adding edited packetOf messageOf isUnstamped isOfContext refusing passing overfull directRead stampedWrite deliveredMessage startRefused startAnswer beginOperation delivered copied repeated positionOf isMalformed decided decidedIn answerTo after context-points naming beginContext allOf placeOf sizeOf numbersOf isCount isObject areObjects standsFirst areDifferent emptyAt isNaming rowCell sizeAt freeRow opening marks-points stored several marksAfter marksIn lessOne oneMore marksFor isOwn raising committing leaving released dropping stamping unstampedWrite switchRead normalRead completion reply lost advancing pendingAt oldest handingOn isCopied isJoining copiesMade joinEnded without replacing telling permitting removing givingUp stampFor asking allPermit permits directIn isOpen openPlace openNumbers
 holds = record { points-hold = refl; context-points-hold = refl; marks-points-hold = refl }

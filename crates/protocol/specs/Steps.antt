@@ -212,7 +212,7 @@ decided g p (BeginContext x) = changingOpens g (beginContext (g .opens) (g .held
 decided g p Join = changingStore g (joining (g .store))
 decided g p Copy = changingStore g (copyingOn (g .store))
 
--- a step that is none, or one with another number of objects than 2 to 8: 1, before anything else
+-- a step that is none, one with a switch number of more than 16 bits, or one with another number of objects than 2 to 8: 1, before anything else
 unfoldable pub isMalformed : Step → Bool
 isMalformed (Start n) = true
 isMalformed (BeginRead x) = false
@@ -221,7 +221,7 @@ isMalformed (Deliver at choice) = false
 isMalformed (Lose at) = false
 isMalformed (Repeat at) = false
 isMalformed (Advance r) = false
-isMalformed (Replace number) = false
+isMalformed (Replace number) = leb limits.switchNumbers number
 isMalformed (Tell r) = false
 isMalformed (Remove r) = false
 isMalformed (GiveUp o) = false

@@ -16,7 +16,7 @@ use Rattle.stamp.proofs.Cells.{length-stamp, stamp-reads, stamp-same, cell-besi
 use Rattle.stamp.proofs.Laws.{lt-above, le-above, above-false}
 use Rattle.switch.specs.Numbers.{numberCell, counterCell, committedCell, directCell, objectCell, slotStampCell, marksCell, slots, switchCells, numberIn, counterIn, committedIn, directIn, marksIn, slotObject, slotStamp}
 use Rattle.slots.specs.{firstSlot, secondSlot, thirdSlot, holdsObject, isCompleted, countsAbove}
-use Rattle.switch.specs.DirtySet.{slotFor, nextStamp, marksFor, slotMarked, marking, canMark, marked, stampFor, clearedAt, committing, completed, newSwitch, countedMarks}
+use Rattle.switch.specs.DirtySet.{slotFor, nextStamp, marksFor, slotMarked, marking, canMark, marked, stampFor, clearedAt, isOwn, raising, committing, completed, newSwitch, countedMarks}
 use Rattle.switch.proofs.FirstSlot.{slots-rise}
 
 -- as many numbers as the code's type gives
@@ -250,22 +250,40 @@ pub completed-beside : (w : List ℕ) (o t j : ℕ) → (j ≡ marksCell → ⊥
 unfolding completed
 completed-beside w o t j d = getD-set-other (committing w o t) marksCell j (countedMarks (committing w o t)) 0 d
 
--- the switch with its marks cleared and last-committed raised
-abbrev raised : List ℕ → ℕ → ℕ → List ℕ
-raised w o t = setStamp (clearedOf w o t) committedCell (largerOf (committedIn w) t)
+-- direct reads may be turned on beside last-committed
+committing-beside : (w : List ℕ) (o t j : ℕ) → (j ≡ directCell → ⊥) → getD (committing w o t) j 0 ≡ getD (raising w o t) j 0
+unfolding committing
+committing-beside w o t j d = go (isOwn w t)
+  where
+    go : (b : Bool) → getD (cond b (set (raising w o t) directCell 1) (raising w o t)) j 0 ≡ getD (raising w o t) j 0
+    go true = getD-set-other (raising w o t) directCell j 1 0 d
+    go false = refl
+
+completed-raised : (w : List ℕ) (o t j : ℕ) → (j ≡ directCell → ⊥) → (j ≡ marksCell → ⊥) → getD (completed w o t) j 0 ≡ getD (raising w o t) j 0
+completed-raised w o t j b d = completed-beside w o t j d ∙ committing-beside w o t j b
+
+raised-beside : (w : List ℕ) (o t j : ℕ) → (j ≡ committedCell → ⊥) → (j ≡ committedCell + 1 → ⊥) → getD (raising w o t) j 0 ≡ getD (clearedOf w o t) j 0
+unfolding raising
+raised-beside w o t j a c = cell-beside (clearedOf w o t) committedCell (largerOf (committedIn w) t) j a c
 
 completed-other : (w : List ℕ) (o t j : ℕ) → (j ≡ committedCell → ⊥) → (j ≡ committedCell + 1 → ⊥) → (j ≡ directCell → ⊥) → (j ≡ marksCell → ⊥) → getD (completed w o t) j 0 ≡ getD (clearedOf w o t) j 0
-unfolding committing
-completed-other w o t j a c b d =
-    completed-beside w o t j d ∙ getD-set-other (raised w o t) directCell j 1 0 b ∙ cell-beside (clearedOf w o t) committedCell (largerOf (committedIn w) t) j a c
+completed-other w o t j a c b d = completed-raised w o t j b d ∙ raised-beside w o t j a c
 
 module _ (w : List ℕ) (o t : ℕ) (z : SizedSwitch w) where
   sized-cleared : length (clearedOf w o t) ≡ switchCells
   sized-cleared = completed-covered w o t z .same-length ∙ z
 
+  sized-raised : SizedSwitch (raising w o t)
+  unfolding raising
+  sized-raised = length-stamp (clearedOf w o t) committedCell (largerOf (committedIn w) t) ∙ sized-cleared
+
   sized-committing : SizedSwitch (committing w o t)
   unfolding committing
-  sized-committing = length-set (raised w o t) directCell 1 ∙ length-stamp (clearedOf w o t) committedCell (largerOf (committedIn w) t) ∙ sized-cleared
+  sized-committing = go (isOwn w t)
+    where
+      go : (b : Bool) → SizedSwitch (cond b (set (raising w o t) directCell 1) (raising w o t))
+      go true = length-set (raising w o t) directCell 1 ∙ sized-raised
+      go false = sized-raised
 
   pub sized-completed : SizedSwitch (completed w o t)
   unfolding completed
@@ -283,18 +301,22 @@ module _ (w : List ℕ) (o t : ℕ) (z : SizedSwitch w) where
       completed-other w o t counterCell (λ e. omega (arith, e)) (λ e. omega (arith, e)) (λ e. omega (arith, e)) (λ e. omega (arith, e)) ∙ completed-covered w o t z .same counterCell (omega arith)
 
   pub completed-committed : committedIn (completed w o t) ≡ largerOf (committedIn w) t
-  unfolding committing committedIn
+  unfolding raising committedIn
   completed-committed =
-      stamp-reads (completed w o t) (committing w o t) committedCell (completed-beside w o t committedCell (λ e. omega (arith, e))) (completed-beside w o t (committedCell + 1) (λ e. omega (arith, e))) ∙
-      stamp-kept (raised w o t) directCell 1 committedCell (λ e. omega (arith, e)) (λ e. omega (arith, e)) ∙
+      stamp-reads (completed w o t) (raising w o t) committedCell
+      (completed-raised w o t committedCell (λ e. omega (arith, e)) (λ e. omega (arith, e))) (completed-raised w o t (committedCell + 1) (λ e. omega (arith, e)) (λ e. omega (arith, e))) ∙
       stamp-same (clearedOf w o t) committedCell (largerOf (committedIn w) t) (omega (arith, sized-cleared))
 
-  pub completed-direct : directIn (completed w o t) ≡ true
+  -- Req 10: a completion of the switch's own turns direct reads on, and another leaves them as they were
+  pub completed-direct : directIn (completed w o t) ≡ cond (isOwn w t) true (directIn w)
   unfolding committing directIn
-  completed-direct =
-      ap (λ (n : ℕ). not (eqb n 0))
-      (completed-beside w o t directCell (λ e. omega (arith, e)) ∙
-      getD-set-same (raised w o t) directCell 1 0 (omega (arith, length-stamp (clearedOf w o t) committedCell (largerOf (committedIn w) t), sized-cleared)))
+  completed-direct = ap (λ (n : ℕ). not (eqb n 0)) (completed-beside w o t directCell (λ e. omega (arith, e))) ∙ go (isOwn w t)
+    where
+      go : (b : Bool) → not (eqb (getD (cond b (set (raising w o t) directCell 1) (raising w o t)) directCell 0) 0) ≡ cond b true (not (eqb (getD w directCell 0) 0))
+      go true = ap (λ (n : ℕ). not (eqb n 0)) (getD-set-same (raising w o t) directCell 1 0 (omega (arith, sized-raised)))
+      go false =
+          ap (λ (n : ℕ). not (eqb n 0))
+          (raised-beside w o t directCell (λ e. omega (arith, e)) (λ e. omega (arith, e)) ∙ completed-covered w o t z .same directCell (omega arith))
 
   -- the stored number is counted anew
   pub marks-completed : marksIn (completed w o t) ≡ countedMarks (committing w o t)

@@ -7,7 +7,7 @@ use lib.ListN.{set, replicate}
 use lib.Dec.{eqb, ltb}
 use Rattle.limits.specs as limits
 use Rattle.slots.specs.{firstSlot, secondSlot, thirdSlot, holdsObject, countsAbove, isFree, holdsAbove, isCompleted}
-use Rattle.stamp.specs.Stamps.{stampOf, largerOf, setStamp}
+use Rattle.stamp.specs.Stamps.{stampOf, numberOf, largerOf, setStamp}
 use Rattle.switch.specs.Numbers.{numberCell, counterCell, committedCell, directCell, slots, objectCell, slotStampCell, marksCell, switchCells}
 use Rattle.switch.specs.Numbers.{numberIn, counterIn, committedIn, slotObject, slotStamp, marksIn}
 
@@ -83,9 +83,17 @@ clearedAt w o t i = cond (isCompleted (slotObject w i) (slotStamp w i) o t) (set
 abbrev pub cleared : List ℕ → ℕ → ℕ → List ℕ
 cleared w o t = clearedAt (clearedAt (clearedAt w o t (firstSlot o)) o t (secondSlot o)) o t (thirdSlot o)
 
--- 'Last-committed becomes the larger of the two. Direct reads are on from now.'
+-- Req 10: 'only if its stamp bears the present switch's number'
+unfoldable pub isOwn : List ℕ → ℕ → Bool
+isOwn w t = eqb (numberOf t) (numberIn w)
+
+-- 'Last-committed becomes the larger of the two.'
+unfoldable pub raising : List ℕ → ℕ → ℕ → List ℕ
+raising w o t = setStamp (cleared w o t) committedCell (largerOf (committedIn w) t)
+
+-- 'Direct reads are on from now', if the completion is the present switch's own; a former one's leaves them as they are
 unfoldable pub committing : List ℕ → ℕ → ℕ → List ℕ
-committing w o t = set (setStamp (cleared w o t) committedCell (largerOf (committedIn w) t)) directCell 1
+committing w o t = cond (isOwn w t) (set (raising w o t) directCell 1) (raising w o t)
 
 -- Req 03: 'also when one completion stops several marks from counting': the stored number is counted anew
 unfoldable pub completed : List ℕ → ℕ → ℕ → List ℕ

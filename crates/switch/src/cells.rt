@@ -6,7 +6,7 @@ ghost use Rattle.limits.specs.{lastCounter};
 ghost use Rattle.stamp.specs.Stamps.{stampIn, setStamp};
 ghost use lib.ListN.{set};
 ghost use Rattle.slots.specs.{holdsAbove};
-ghost use Rattle.switch.specs.DirtySet.{holdsAt, freeSlot, slotFor, lookedUp, lessOne, oneMore, marksFor, marked, stampFor, clearedAt, cleared, committing, completed, countedMarks};
+ghost use Rattle.switch.specs.DirtySet.{holdsAt, freeSlot, slotFor, lookedUp, lessOne, oneMore, marksFor, marked, stampFor, clearedAt, cleared, isOwn, raising, committing, completed, countedMarks};
 ghost use Rattle.switch.specs.Values.{switchOf};
 use crate::CELLS;
 use crate::COMMITTED;
@@ -260,14 +260,31 @@ fn clear_marks(cells: &mut [u32; CELLS], o: Object, t: Stamp)
     clear(&mut *cells, o, t, third_slot(o));
 }
 
-// Besides, last-committed rises, and direct reads are on.
-fn commit(cells: &mut [u32; CELLS], o: Object, t: Stamp)
-    ensures { λ _. ⌜ now (cells .exit) ≡ committing (now (cells .entry)) o t ⌝ }
+// Req 10: whether the completion t is of a write that the present switch stamped.
+fn is_own(cells: &[u32; CELLS], t: Stamp) -> bool
+    ensures { λ r. ⌜ r ≡ isOwn (now (cells .entry)) t ⌝ }
+{
+    stamp::upper(t) == number(cells) as u32
+}
+
+// Besides, last-committed rises.
+fn raise(cells: &mut [u32; CELLS], o: Object, t: Stamp)
+    ensures { λ _. ⌜ now (cells .exit) ≡ raising (now (cells .entry)) o t ⌝ }
 {
     let c = stamp::larger(committed(cells), t);
     clear_marks(&mut *cells, o, t);
     set_stamp(&mut *cells, COMMITTED, c);
-    cells[DIRECT] = 1;
+}
+
+// And direct reads are on, if the completion is the present switch's own.
+fn commit(cells: &mut [u32; CELLS], o: Object, t: Stamp)
+    ensures { λ _. ⌜ now (cells .exit) ≡ committing (now (cells .entry)) o t ⌝ }
+{
+    let own = is_own(cells, t);
+    raise(&mut *cells, o, t);
+    if own {
+        cells[DIRECT] = 1;
+    }
 }
 
 // How many marks count, over all slots. A slot whose mark counts adds 65,536 and its own number to the sum: of ones the compiler would make a mask and count its bits, which takes longer

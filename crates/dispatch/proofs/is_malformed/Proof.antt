@@ -1,4 +1,6 @@
 use Rattle.protocol.specs.Steps.{isMalformed}
+use mathlib.Core.Path.{sym}
+use borrow.Author.Tests.{lt-leb}
 use borrow.Author.Needs.{needs}
 use Rattle.dispatch.proofs.is_malformed.Statement.{statement}
 use Rattle.dispatch.proofs.is_malformed.Tie as tie
@@ -33,7 +35,7 @@ returns-7 c = rw (c .before .x7 .given .1)
 
 returns-8 : tie.Need-returns-8
 unfolding isMalformed
-returns-8 c = rw (c .before .x8 .given .1)
+returns-8 c = rw (c .before .x8 .given .1) (sym (lt-leb 65536 (c .before .x8 .given .0 .0) (c .known-told8 .given .0 .1)))
 
 returns-9 : tie.Need-returns-9
 unfolding isMalformed
