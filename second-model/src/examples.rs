@@ -15,6 +15,7 @@ mod deliveries;
 mod ends;
 mod give_ups;
 mod joins;
+mod late_completions;
 mod marks;
 mod refusals;
 mod removals;
@@ -28,7 +29,7 @@ use std::io;
 use std::path::Path;
 
 /// The tables, in the order in which the examples are listed.
-const TABLES: [&str; 10] = [
+const TABLES: [&str; 11] = [
     ends::TABLE,
     refusals::TABLE,
     marks::TABLE,
@@ -39,6 +40,7 @@ const TABLES: [&str; 10] = [
     contexts::TABLE,
     joins::TABLE,
     give_ups::TABLE,
+    late_completions::TABLE,
 ];
 
 /// What a twin has behind the name of its example.

@@ -560,12 +560,13 @@ mod tests {
     }
 
     /// The kinds that stand before the contexts, those before the joins, and those
-    /// before the give-ups: but for the length of give-ups their bytes stay as
-    /// they were, up to where a file's length ends it.
+    /// before the give-ups: a kind that is added leaves their bytes as they are, up
+    /// to where a file's length ends it and but for the length of give-ups. A rule
+    /// that changes what a run does changes them (Req 10 those with late completions).
     #[test]
     fn earlier_kinds_keep_their_bytes() {
-        assert_eq!(checksum(&KINDS[..17]), 17_491_568_054_598_121_235);
-        assert_eq!(checksum(&KINDS[17..20]), 9_647_092_281_339_500_601);
+        assert_eq!(checksum(&KINDS[..17]), 3_996_559_122_455_926_079);
+        assert_eq!(checksum(&KINDS[17..20]), 17_134_643_542_790_747_144);
         assert_eq!(checksum(&KINDS[20..23]), 18_333_810_568_927_366_581);
     }
 

@@ -1,6 +1,6 @@
 //! A second model of the session store machine of document 01, with Req 01, Req
-//! 02, Req 04, Req 07 and Req 08 of document 02: one switch, one chain of replicas,
-//! packets in every order.
+//! 02, Req 04, Req 07, Req 08 and Req 10 of document 02: one switch, one chain of
+//! replicas, packets in every order.
 
 pub mod command;
 pub mod compare;

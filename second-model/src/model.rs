@@ -1,6 +1,6 @@
 //! The machine: a switch, a chain, the waiting packets and the open
 //! operations, and what each step does to them (document 01; document 02,
-//! Req 01, Req 02, Req 04 and Req 07).
+//! Req 01, Req 02, Req 04, Req 07 and Req 10).
 
 mod chain;
 mod few;
@@ -655,6 +655,11 @@ impl Model {
         self.switch.direct_reads
     }
 
+    /// The last-committed stamp.
+    pub fn last_committed(&self) -> Stamp {
+        self.switch.committed
+    }
+
     /// Value and stamp of an object at a live replica.
     pub fn held(&self, replica: u8, object: u16) -> Option<Held> {
         if object >= OBJECTS {
@@ -738,6 +743,12 @@ impl Model {
         if let (Some(newcomer), true) = (self.chain.newcomer_mut(), object < OBJECTS) {
             newcomer.falsify(object, held);
         }
+    }
+
+    /// Turns direct reads on, for a program that is wrong on purpose. No step does
+    /// this without a completion of the present switch.
+    pub fn falsify_direct_reads(&mut self) {
+        self.switch.direct_reads = true;
     }
 
     /// Puts another packet in the place of the newest one, for a program that

@@ -1,5 +1,5 @@
 //! What the run program prints (document 01, section of that name; document
-//! 02, Req 01, Req 02 and Req 07).
+//! 02, Req 01, Req 02, Req 07 and Req 10).
 
 use crate::model::{Answer, Finished, Model, Refusal, Step};
 use crate::records::{Reader, Record};
@@ -194,6 +194,18 @@ mod tests {
                      9 ok 3 1 - - -\n10 ok 3 1 - - -\n11 ok 2 0 - - -\n12 ok 2 0 - - -\n\
                      13 ok 1 0 2 9 -\n14 ok 0 0 3 0,9 -\n15 ok 1 0 - - -\n\
                      16 ok 1 0 - - -\n17 ok 1 0 - - -\n18 ok 0 0 4 9,0 -\n";
+        assert_eq!(text(&input), lines);
+    }
+
+    /// A completion of the former switch leaves direct reads off, so that the read
+    /// is a normal one (Req 10).
+    #[test]
+    fn a_former_switch_s_completion() {
+        let input =
+            file("start 1; write 5 9; 3 * deliver 0; replace 2; deliver 0; read 5; 3 * deliver 0");
+        let lines = "1 ok 0 0 - - -\n2 ok 1 0 - - -\n3 ok 1 1 - - -\n4 ok 2 1 - - -\n\
+                     5 ok 1 1 1 9 -\n6 ok 1 0 - - -\n7 ok 0 0 - - -\n8 ok 1 0 - - -\n\
+                     9 ok 1 0 - - -\n10 ok 1 0 - - -\n11 ok 0 0 2 9 -\n";
         assert_eq!(text(&input), lines);
     }
 

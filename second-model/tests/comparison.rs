@@ -3,7 +3,7 @@
 use second_model::compare::printed;
 use second_model::draw::draw;
 use second_model::examples::all;
-use second_model::generate::generate;
+use second_model::generate::{generate, SMALL};
 use second_model::order::{find_order, history};
 use second_model::records::{given_up_in_two_bytes, pieces};
 use second_model::run::output;
@@ -165,7 +165,7 @@ fn a_wrong_join_is_seen_in_the_examples() {
         "write-of-a-lone-replica-reaches-the-newcomer",
         "write-of-the-last-object-copied",
         "write-after-the-fifteenth-copy-to-a-copied-object",
-        "stamp-of-a-write-meanwhile-sends-a-direct-read-on",
+        "write-meanwhile-after-a-late-completion",
     ] {
         assert!(seen.contains(&name), "{name} not among {seen:?}");
     }
@@ -225,6 +225,65 @@ fn a_wrong_length_is_seen_in_the_examples() {
     }
     println!("{noticed} examples notice the wrong length");
     assert!(noticed >= 20, "{noticed}");
+}
+
+/// A former switch's completion turns direct reads on: a read is direct where it
+/// should be a normal one, so that it comes to another end some steps later.
+#[test]
+fn a_wrong_completion_is_found_and_the_file_shortened() {
+    let program = env!("CARGO_BIN_EXE_wrong-completion-run");
+    let kept = difference(program, "wrong-completion");
+    let tags: Vec<u8> = pieces(&kept.short).into_iter().map(|p| p[0]).collect();
+    let count = |tag| tags.iter().filter(|&&t| t == tag).count();
+    assert!(count(2) >= 1 && count(7) >= 1 && count(1) + count(11) >= 1);
+    assert_ne!(kept.ours.lines().last(), kept.theirs.lines().last());
+    // A start, a write, a replacement, a read and seven deliveries have 65 bytes.
+    let length = kept.short.len();
+    assert!((65..1000).contains(&length), "{length} bytes");
+}
+
+/// The stored examples about reads after a late completion notice it, those about
+/// direct reads that are on already do not.
+#[test]
+fn a_wrong_completion_is_seen_in_the_examples() {
+    let path = PathBuf::from(env!("CARGO_TARGET_TMPDIR")).join("completion.records");
+    let program = Path::new(env!("CARGO_BIN_EXE_wrong-completion-run"));
+    let examples = all().into_iter();
+    let seen = examples.filter(|e| output(&e.input) != printed(program, &e.input, &path).unwrap());
+    let seen: Vec<String> = seen.map(|e| e.name).collect();
+    let seen: Vec<&str> = seen.iter().map(String::as_str).collect();
+    for name in [
+        "former-switch-s-completion-leaves-direct-reads-off",
+        "repeated-completion-of-a-former-switch",
+        "completions-of-two-former-switches",
+        "copy-of-a-completion-past-the-next-replacement",
+        "late-completion-of-an-old-switch",
+        "context-after-a-late-completion",
+    ] {
+        assert!(seen.contains(&name), "{name} not among {seen:?}");
+    }
+    assert!(!seen.contains(&"former-switch-s-completion-leaves-direct-reads-on"));
+    assert!(!seen.contains(&"own-completion-turns-direct-reads-on"));
+}
+
+/// In the chain the order does not rest on this rule: the wrong program's small runs
+/// have one too, also where its lines are others.
+#[test]
+fn a_wrong_completion_leaves_an_order() {
+    let folder = PathBuf::from(env!("CARGO_TARGET_TMPDIR"));
+    let path = folder.join("small-completions.records");
+    let program = Path::new(env!("CARGO_BIN_EXE_wrong-completion-run"));
+    let mut differ = 0;
+    for seed in 0..900 {
+        let kind = SMALL[seed as usize % SMALL.len()];
+        let input = generate(kind, seed, 700).unwrap();
+        let found = |lines: &[u8]| find_order(&history(&input, lines).unwrap()).is_some();
+        let (ours, theirs) = (output(&input), printed(program, &input, &path).unwrap());
+        assert!(found(&ours) && found(&theirs), "{kind}, seed {seed}");
+        differ += usize::from(ours != theirs);
+    }
+    println!("{differ} of 900 small runs differ");
+    assert!(differ >= 3, "{differ}");
 }
 
 #[test]

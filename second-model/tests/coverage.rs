@@ -1,10 +1,12 @@
 //! The random files reach every rule of document 01 and each way it drops, reads
 //! of every age in many situations (document 02, Req 01), reads of contexts in as
-//! many (Req 02), joins (Req 04), and give-ups of both lengths (Req 07); and how
-//! far drawn runs get (Req 08).
+//! many (Req 02), joins (Req 04), give-ups of both lengths (Req 07), and completions
+//! of former switches (Req 10); and how far drawn runs get (Req 08).
 
 #[path = "coverage/ages.rs"]
 mod ages;
+#[path = "coverage/completions.rs"]
+mod completions;
 #[path = "coverage/contexts.rs"]
 mod contexts;
 #[path = "coverage/draws.rs"]
@@ -15,6 +17,7 @@ mod give_ups;
 mod joins;
 
 use ages::Ages;
+use completions::Completions;
 use contexts::Contexts;
 use give_ups::{Fault, GiveUps};
 use joins::Joins;
@@ -80,7 +83,7 @@ fn comparison() -> Task {
 }
 
 #[test]
-fn every_rule_age_context_join_and_give_up_is_reached() {
+fn every_rule_and_situation_is_reached() {
     let task = comparison();
     let mut seen = Seen::new();
     for index in 0..task.files {
@@ -90,7 +93,8 @@ fn every_rule_age_context_join_and_give_up_is_reached() {
     let mut seldom = String::new();
     let ages = ages::WANTED.into_iter().chain(contexts::WANTED);
     let joins = joins::WANTED.into_iter().chain(give_ups::WANTED);
-    for (event, least) in rules.chain([RARE]).chain(ages).chain(joins) {
+    let all = rules.chain([RARE]).chain(ages).chain(joins);
+    for (event, least) in all.chain(completions::WANTED) {
         let times = seen.get(event).copied().unwrap_or(0);
         println!("{event:<56} {times:>9}");
         if times < least {
@@ -98,7 +102,7 @@ fn every_rule_age_context_join_and_give_up_is_reached() {
         }
     }
     assert!(seldom.is_empty(), "{seldom}");
-    for event in ages::NEVER {
+    for event in ages::NEVER.into_iter().chain(completions::NEVER) {
         assert_eq!(seen.get(event), None, "{event}");
     }
 }
@@ -280,6 +284,7 @@ fn watch(file: &[u8], seen: &mut Seen) {
     let mut ages = Ages::default();
     let mut contexts = Contexts::default();
     let mut joins = Joins::default();
+    let mut completions = Completions::default();
     let mut give_ups = GiveUps::default();
     for (record, piece) in reader.zip(pieces(file).into_iter().skip(1)) {
         let Ok(Record::Step(step)) = record else {
@@ -289,6 +294,7 @@ fn watch(file: &[u8], seen: &mut Seen) {
         let mut events = ages.before(&model, step);
         events.extend(contexts.before(&model, step));
         events.extend(joins.before(&model, step));
+        events.extend(completions.before(&model, step));
         let waiting = model.waiting();
         let answer = model.step(step);
         let late = match early {
@@ -300,6 +306,7 @@ fn watch(file: &[u8], seen: &mut Seen) {
         events.extend(ages.after(&model, answer));
         events.extend(contexts.after(&model, step, answer));
         events.extend(give_ups.after(&model, step, piece, answer));
+        events.extend(completions.after(&model, step, answer));
         joins.after(&model, step, answer);
         assert!(model.counter() <= model.begun(), "a counter runs ahead");
         for event in events {

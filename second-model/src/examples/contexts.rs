@@ -64,9 +64,9 @@ rejected-for-the-switch-number-goes-to-the-tail: start 2; {done}; read 5 6; deli
     tell 1; deliver 0; remove 2; deliver 0
     => 14 ok 0 0 - - -
 
-rejected-where-only-the-old-switch-is-permitted: start 2; write 5 9; 2 * deliver 0; advance 2;
-    replace 2; deliver 1; read 5 6; deliver 1; deliver 1; remove 2; deliver 1
-    => 12 ok 1 0 - - -
+context-by-a-new-switch-where-only-the-old-is-permitted: start 2; write 5 9; 2 * deliver 0;
+    advance 2; replace 2; deliver 1; read 5 6; deliver 1; deliver 1; remove 2; deliver 1
+    => 12 ok 1 0 2 9,0 -
 
 context-where-the-new-switch-is-not-permitted-yet: start 2; {done}; read 5 6; deliver 0;
     replace 2; 2 * deliver 0
@@ -115,7 +115,7 @@ context-after-the-switch-is-replaced: start 2; {done}; {told}; read 5 6; deliver
 
 context-after-a-late-completion: start 2; write 5 9; 2 * deliver 0; advance 2; {told}; deliver 1;
     read 5 6; deliver 1; remove 2; 2 * deliver 1
-    => 14 ok 1 0 2 9,0 -
+    => 14 no 7
 
 normal-context-past-a-new-switch: start 2; read 5 6; deliver 0; replace 2; 2 * deliver 0
     => 6 ok 0 0 1 0,0 -

@@ -111,9 +111,9 @@ direct-read-where-the-new-switch-is-not-permitted-yet: start 2; {done}; read 5; 
     replace 2; 2 * deliver 0
     => 12 ok 0 0 2 9 -
 
-direct-read-of-a-new-switch-where-only-the-old-is-permitted: start 2; write 5 9; 2 * deliver 0;
+read-by-a-new-switch-where-only-the-old-is-permitted: start 2; write 5 9; 2 * deliver 0;
     advance 2; replace 2; deliver 1; read 5; deliver 1; deliver 1; remove 2; deliver 1
-    => 12 ok 1 0 - - -
+    => 12 ok 1 0 2 9 -
 
 repeated-direct-read: start 2; {done}; read 5; deliver 0; repeat 0; 4 * deliver 0
     => 14 ok 0 0 - - -
@@ -138,15 +138,15 @@ choice-means-nothing-for-a-normal-read: start 3; read 5; deliver 0 1; remove 2; 
 replace-turns-direct-reads-off: start 2; {done}; {told}; read 5; deliver 0; remove 2; deliver 0
     => 14 ok 0 0 - - -
 
-replace-resets-last-committed: start 2; write 5 9; 2 * deliver 0; advance 2; write 6 8;
-    2 * deliver 2; advance 2; deliver 3; {told}; deliver 1; read 6; 2 * deliver 2; remove 2;
-    deliver 2
-    => 19 ok 2 0 - - -
+read-after-a-late-completion-of-another-object: start 2; write 5 9; 2 * deliver 0; advance 2;
+    write 6 8; 2 * deliver 2; advance 2; deliver 3; {told}; deliver 1; read 6; 2 * deliver 2;
+    remove 2; deliver 2
+    => 19 ok 2 0 3 8 -
 
 let late: start 2; write 5 9; 2 * deliver 0; advance 2; {told}
 
 late-completion-of-an-old-switch: {late}; deliver 1; read 5; deliver 1; remove 2; 2 * deliver 1
-    => 14 ok 1 0 2 9 -
+    => 14 no 7
 
 late-completion-leaves-the-new-mark: {late}; write 5 8; deliver 2; deliver 1 => 11 ok 2 1 - - -
 

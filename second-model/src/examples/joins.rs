@@ -48,17 +48,21 @@ let two-writes: write 5 8; 2 * deliver 2; advance 2
 
 let behind: replace 2; tell 1; tell 2; tell 3; deliver 1; read 5; deliver 3 2
 
-copied-stamp-above-sends-a-direct-read-on: start 2; write 5 9; 2 * deliver 0; advance 2;
+copied-object-after-a-late-completion: start 2; write 5 9; 2 * deliver 0; advance 2;
     {two-writes}; {whole}; {behind}; deliver 3; remove 3; deliver 3
-    => 36 ok 3 0 - - -
+    => 36 ok 3 0 3 8 -
 
-stamp-of-a-write-meanwhile-sends-a-direct-read-on: start 2; write 5 9; 2 * deliver 0; advance 2;
-    join; copy; {two-writes}; 15 * copy; {behind}; deliver 3; remove 3; deliver 3
-    => 36 ok 3 0 - - -
+write-meanwhile-after-a-late-completion: start 2; write 5 9; 2 * deliver 0; advance 2; join; copy;
+    {two-writes}; 15 * copy; {behind}; deliver 3; remove 3; deliver 3
+    => 36 ok 3 0 3 8 -
 
-stamp-of-another-object-does-not: start 2; write 5 9; 2 * deliver 0; advance 2; join; copy;
-    write 6 8; 2 * deliver 2; advance 2; 15 * copy; {behind}; 2 * deliver 3
+write-of-another-object-after-a-late-completion: start 2; write 5 9; 2 * deliver 0; advance 2;
+    join; copy; write 6 8; 2 * deliver 2; advance 2; 15 * copy; {behind}; 2 * deliver 3
     => 35 ok 3 0 3 9 -
+
+stamp-of-another-object-does-not-send-a-direct-read-on: start 2; {done}; join; copy; write 6 8;
+    2 * deliver 0; advance 2; 15 * copy; read 5; deliver 2 2; 2 * deliver 2
+    => 32 ok 2 1 3 9 -
 
 objects-of-the-first-and-the-last-copy: start 1; write 0 1; 4 * deliver 0; write 63 2;
     4 * deliver 0; write 64 3; 4 * deliver 0; write 960 4; 4 * deliver 0; write 1023 5;

@@ -1,5 +1,5 @@
 //! The switch and its marks (document 01, "The marks (dirty set)"; document 02,
-//! Req 01 and Req 07).
+//! Req 01, Req 07 and Req 10).
 
 use super::Stamp;
 
@@ -70,7 +70,8 @@ impl Switch {
     }
 
     /// "Completion, to the switch": clears the object's marks not above the
-    /// stamp, raises last-committed, turns direct reads on.
+    /// stamp and raises last-committed; turns direct reads on "only if its stamp
+    /// bears the present switch's number" (Req 10), and never off.
     pub fn complete(&mut self, object: u16, stamp: Stamp) {
         for slot in slots_of(object) {
             if self.holders[slot] == Some(object) && self.stamps[slot] <= stamp {
@@ -79,7 +80,7 @@ impl Switch {
             }
         }
         self.committed = self.committed.max(stamp);
-        self.direct_reads = true;
+        self.direct_reads |= stamp.switch() == self.number;
     }
 
     /// The counter of the last stamp given, 0 if none.
@@ -178,13 +179,55 @@ mod tests {
     }
 
     #[test]
-    fn a_late_completion_of_an_old_switch() {
+    fn a_former_switch_s_completion_leaves_direct_reads_off() {
         let mut switch = Switch::new(2);
         switch.mark(5);
         switch.complete(5, Stamp::new(1, 9));
         assert_eq!(switch.committed, Stamp::new(1, 9));
-        assert!(switch.direct_reads);
+        assert!(!switch.direct_reads);
         assert_eq!(switch.counting_mark(5), Some(Stamp::new(2, 1)));
+        switch.complete(5, Stamp::new(2, 1));
+        assert_eq!(switch.committed, Stamp::new(2, 1));
+        assert!(switch.direct_reads);
+        assert_eq!((switch.counting_mark(5), switch.holders[5]), (None, None));
+    }
+
+    #[test]
+    fn a_former_switch_s_completion_leaves_direct_reads_on() {
+        let mut switch = Switch::new(2);
+        switch.mark(5);
+        switch.complete(5, Stamp::new(2, 1));
+        switch.complete(6, Stamp::new(1, 9));
+        assert!(switch.direct_reads);
+        assert_eq!(switch.committed, Stamp::new(2, 1));
+    }
+
+    /// No run gets there: a mark that is not above a former switch's completion is
+    /// cleared by it, others of that object or of another one stay, and whether
+    /// they count follows last-committed.
+    #[test]
+    fn a_former_switch_s_completion_clears_marks_and_raises_last_committed() {
+        let mut switch = marked(&[5, 6, 7, 7]);
+        switch.number = 3;
+        switch.complete(5, Stamp::new(1, 1));
+        assert_eq!((switch.holders[5], switch.counting()), (None, 2));
+        assert_eq!(switch.committed, Stamp::new(1, 1));
+        switch.complete(7, Stamp::new(1, 3));
+        assert_eq!((switch.holders[7], switch.counting()), (Some(7), 1));
+        assert_eq!(switch.counting_mark(6), None, "overtaken");
+        switch.complete(7, Stamp::new(2, 0));
+        assert_eq!((switch.holders[7], switch.counting()), (None, 0));
+        assert_eq!(switch.committed, Stamp::new(2, 0));
+        assert!(!switch.direct_reads);
+    }
+
+    /// A number above the present one is no more the present one's.
+    #[test]
+    fn a_later_switch_s_completion_leaves_direct_reads_off() {
+        let mut switch = Switch::new(2);
+        switch.complete(5, Stamp::new(3, 1));
+        assert!(!switch.direct_reads);
+        assert_eq!(switch.committed, Stamp::new(3, 1));
     }
 
     #[test]

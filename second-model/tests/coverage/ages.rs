@@ -42,7 +42,8 @@ pub const WANTED: [(&str, usize); 34] = [
     ("ignored: reply with a stamp", 50_000),
 ];
 
-/// With direct reads off last-committed is (0,0), so every mark counts.
+/// With direct reads off last-committed bears a lower number than the switch, so
+/// every mark counts.
 pub const NEVER: [&str; 1] = ["sent: direct reads off, mark overtaken"];
 
 /// A read sent to the tail with a stamp: the operation and the stamp.

@@ -9,7 +9,7 @@ pub const WANTED: [(&str, usize); 32] = [
     ("length 2: accepted", 2_000),
     ("length 2: accepted, above 255", 800),
     ("length 2: accepted, the only one open", 200),
-    ("length 2: accepted, 64 open", 50),
+    ("length 2: accepted, 64 open", 40),
     ("length 2: accepted, 64 waiting", 50),
     ("length 2: refused, operation 0", 10),
     ("length 2: refused, finished", 10),
