@@ -1,7 +1,7 @@
 /* The proved model, for callers in C, on x86-64. Two archives, of which a caller links one or both:
  *
  *   target/staticlib/libwoldladle.a        sessions, step by step (`rt staticlib woldladle` writes it)
- *   target/staticlib/libwoldladle_runs.a   whole runs, woldladle_run and woldladle_draw (`rt staticlib woldladle_runs`)
+ *   target/staticlib/libwoldladle_runs.a   whole runs, woldladle_run, woldladle_draw and woldladle_shorten (`rt staticlib woldladle_runs`)
  *
  * What a session is lent, and nothing else: the libraries allocate no memory and keep nothing between calls.
  *
@@ -109,6 +109,13 @@ size_t woldladle_run(const uint8_t *input, size_t length, uint8_t *out, size_t r
  * WOLDLADLE_LONGEST_INPUT bytes are room for any. Each draw is (seed times 1,664,525 plus 1,013,904,223) mod 2^32, and the next seed; tags 1 to 10 are drawn. */
 #define WOLDLADLE_MOST_STEPS 7000
 int64_t woldladle_draw(uint32_t seed, uint64_t n, uint64_t steps, uint8_t *out, size_t length);
+
+/* A shorter run whose last record is refused with the same number: the start, the last record and some between, unchanged and in order, at the start of `out`, such that
+ * dropping any one more of those between changes that; bytes beyond stay as they were. How many bytes they have; or minus the refusal, and `out` is as it was: -14, then -1 or
+ * -2, as the run of the input meets them; then -22 above 512 records; then -21 where the last record is not refused by its step; then -15 where `room` is less than they have.
+ * It takes 0.7 MB of stack, and a second in the worst case that is known. */
+#define WOLDLADLE_MOST_RECORDS 512
+int64_t woldladle_shorten(const uint8_t *input, size_t length, uint8_t *out, size_t room);
 
 /* All that a session is lent, and the calls over it. The switch begins with a cache line: where it lay across the end of a page, the average step took a tenth longer. */
 struct __attribute__((aligned(64))) woldladle_model {

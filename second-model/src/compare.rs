@@ -4,6 +4,7 @@
 mod answers;
 pub mod draws;
 mod shorten;
+pub mod shortenings;
 pub mod threads;
 
 pub use shorten::shorten;

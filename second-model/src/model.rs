@@ -90,6 +90,8 @@ pub enum Refusal {
     JoinUnderWay = 18,
     NoJoin = 19,
     TooManySteps = 20,
+    LastNotRefused = 21,
+    TooManyRecords = 22,
 }
 
 impl Refusal {

@@ -1,12 +1,15 @@
-//! `compare` and `compare-draws` agree with this model's own programs, and can fail.
+//! `compare`, `compare-draws` and `compare-shorten` agree with this model's own
+//! programs, and can fail.
 
 use second_model::compare::printed;
+use second_model::compare::shortenings::NUMBERS;
 use second_model::draw::draw;
 use second_model::examples::all;
 use second_model::generate::{generate, SMALL};
 use second_model::order::{find_order, history};
 use second_model::records::{given_up_in_two_bytes, pieces};
 use second_model::run::output;
+use second_model::words::file;
 use std::fs;
 use std::path::{Path, PathBuf};
 use std::process::{Command, Output};
@@ -361,5 +364,79 @@ fn what_the_drawing_program_answers() {
         let (status, bytes, error) = answer(words);
         assert_eq!((status, bytes), (Some(2), vec![]));
         assert_eq!(error, "usage: second-draw SEED N STEPS\n");
+    }
+}
+
+fn compare_shorten(program: &str, files: &str) -> Output {
+    let mut command = Command::new(env!("CARGO_BIN_EXE_compare-shorten"));
+    command.args([program, "--files", files, "--seed", "5"]);
+    command.env("TMPDIR", env!("CARGO_TARGET_TMPDIR"));
+    command.output().unwrap()
+}
+
+#[test]
+fn no_difference_with_its_own_shortening() {
+    let compared = compare_shorten(env!("CARGO_BIN_EXE_second-shorten"), "200");
+    let text = text(&compared);
+    assert_eq!(compared.status.code(), Some(0), "{text}");
+    assert!(text.starts_with("seed 5\n"));
+    for number in NUMBERS {
+        assert!(
+            text.contains(&format!("\nno {number} ")),
+            "{number}\n{text}"
+        );
+    }
+    let (_, refused) = text.split_once("not shortened").unwrap();
+    for number in [1, 2, 14, 21, 22] {
+        let line = format!("\nno {number} ");
+        assert!(refused.contains(&line), "{number}\n{text}");
+    }
+    let last = text.lines().last().unwrap();
+    assert!(last.starts_with("compared 200 files ("), "{last}");
+    assert!(last.contains(" 0 differences; of "), "{last}");
+}
+
+/// A shortening program that makes one pass only, one that leaves all as it is, and
+/// one that writes nothing.
+#[test]
+fn a_wrong_shortening_is_found() {
+    for program in [env!("CARGO_BIN_EXE_wrong-shorten"), "/bin/cat", "/bin/true"] {
+        let compared = compare_shorten(program, "200");
+        let text = text(&compared);
+        assert_eq!(compared.status.code(), Some(1), "{program}: {text}");
+        assert!(text.contains("difference on file "), "{program}: {text}");
+        let (_, kept) = text.trim_end().split_once("; see ").unwrap();
+        assert!(fs::remove_file(kept).is_ok(), "{kept}");
+    }
+    let compared = compare_shorten("/no/such/program", "20");
+    assert_eq!(compared.status.code(), Some(2));
+}
+
+/// Bytes and refusals of the shortening program, from a file and from standard
+/// input, with their exit status.
+#[test]
+fn what_the_shortening_program_answers() {
+    let folder = PathBuf::from(env!("CARGO_TARGET_TMPDIR"));
+    let (run, start) = (folder.join("to-shorten.records"), folder.join("start"));
+    fs::write(&run, file("start 2; read 5; remove 1; remove 2")).unwrap();
+    fs::write(&start, file("start 2")).unwrap();
+    let answer = |words: &[&Path], input: &Path| {
+        let mut command = Command::new(env!("CARGO_BIN_EXE_second-shorten"));
+        command.args(words).stdin(fs::File::open(input).unwrap());
+        let output = command.output().unwrap();
+        let error = String::from_utf8(output.stderr).unwrap();
+        (output.status.code(), output.stdout, error)
+    };
+    let kept = (Some(0), file("start 2; remove 1; remove 2"), String::new());
+    let refused = (Some(1), vec![], String::from("no 21\n"));
+    for (path, expected) in [(&run, kept), (&start, refused)] {
+        assert_eq!(answer(&[], path), expected);
+        assert_eq!(answer(&[Path::new("-")], path), expected);
+        assert_eq!(answer(&[path], &run), expected);
+    }
+    for words in [&[Path::new("/no/such/file")][..], &[&run, &start]] {
+        let (status, bytes, error) = answer(words, &run);
+        assert_eq!((status, bytes), (Some(2), vec![]));
+        assert!(!error.is_empty());
     }
 }

@@ -326,6 +326,22 @@ pub fn draw(seed: u32, n: u64, steps: u64, out: &mut [u8]) -> Result<usize, u8> 
     usize::try_from(answer).map_err(|_| answer.unsigned_abs() as u8)
 }
 
+/// The most records of a run that is shortened, the start counted.
+pub const MOST_RECORDS: usize = 512;
+
+/// A shorter run whose last record is refused with the same number: the start, the
+/// last record and some between, unchanged and in order, such that dropping any one
+/// more of those between changes that, at the start of `out`. How many bytes they
+/// have, or refusal 14, then 1 or 2, as the run of the input meets them, then 22
+/// above `MOST_RECORDS`, then 21 where the last record is not refused by its step,
+/// then 15 where `out` is too short. A refusal leaves `out` as it was, and what is
+/// written every byte beyond.
+pub fn shorten(input: &[u8], out: &mut [u8]) -> Result<usize, u8> {
+    let (to, room) = (out.as_mut_ptr(), out.len());
+    let answer = unsafe { raw::woldladle_shorten(input.as_ptr(), input.len(), to, room) };
+    usize::try_from(answer).map_err(|_| answer.unsigned_abs() as u8)
+}
+
 #[cfg(test)]
 mod tests {
     use super::*;

@@ -73,5 +73,6 @@ extern "C" {
     pub fn woldladle_stamp(store: *const u32, replica: u8, object: u32) -> u64;
     pub fn woldladle_chain(store: *const u32, out: *mut u8) -> u8;
     pub fn woldladle_draw(seed: u32, n: u64, steps: u64, out: *mut u8, length: usize) -> i64;
+    pub fn woldladle_shorten(input: *const u8, length: usize, out: *mut u8, room: usize) -> i64;
     pub fn woldladle_run(input: *const u8, length: usize, out: *mut u8, room: usize) -> usize;
 }

@@ -1,6 +1,7 @@
 //! The two libraries from outside, in one program: the same lines as the second
 //! model, refusals that change nothing, and what a file of records cannot reach.
-//! Reads of several objects, joins and drawn runs have modules of their own.
+//! Reads of several objects, joins, drawn and shortened runs have modules of their
+//! own.
 
 #[path = "outside/contexts.rs"]
 mod contexts;
@@ -8,6 +9,8 @@ mod contexts;
 mod draws;
 #[path = "outside/joins.rs"]
 mod joins;
+#[path = "outside/shortening.rs"]
+mod shortening;
 
 use second_model::generate::{generate, Random, KINDS};
 use second_model::{records, run::output};

@@ -16,7 +16,7 @@ use Rattle.records.specs.declared.Next.{Next}
 use Rattle.records.specs.Records.{byteAt, twoAt, twoBytes, fourBytes, kindOfTag, tagOf, isShortGiveUp, isLength, kindOf, contentOf, headerOf, recordOf, stepOf, recordAt, isShortAt, isStart, inPlace, nextOf, nextAt, isWritable, hasRoom, writtenAt, bufferAfter, nextRefusal, writtenRefusal, AllBytes, InRange}
 use Rattle.records.proofs.Bytes.{two-read, two-written, first-bytes}
 use Rattle.records.proofs.Parts.{byte-from, two-from, content-from, bytes-drop, bytes-take, found, Parts, parts}
-use Rattle.records.proofs.Table.{row, read-as, short-give-up, short-read, kind-read, writable-read, tag-known, record-size}
+use Rattle.records.proofs.Table.{length-bounds, row, read-as, short-give-up, short-read, kind-read, writable-read, tag-known, record-size}
 
 -- ---- written, then read
 
@@ -141,6 +141,13 @@ next-position l at n s e =
     let next : at + 3 + twoAt l (at + 1) ≡ n = p .next in
     let room : at + 3 + twoAt l (at + 1) ≤ length l = p .room in
     (sym next, omega arith, omega arith)
+
+-- and it has at most 19 bytes
+pub record-most : (l : List ℕ) (at n : ℕ) (s : Step) → recordAt l at ≡ Found.Record s n → n ≤ at + 19
+record-most l at n s e =
+    let p = parts l at n s e in
+    let next : at + 3 + twoAt l (at + 1) ≡ n = p .next in
+    omega (arith, length-bounds (kindOfTag (byteAt l at)) (p .below) (twoAt l (at + 1)) (p .size))
 
 -- so the step read, written where it was read, leaves the input as it was, but for a give-up of length 2
 pub rewritten : (l : List ℕ) (at n : ℕ) (s : Step) → AllBytes l → recordAt l at ≡ Found.Record s n → isShortAt l at ≡ false → bufferAfter l at s ≡ l

@@ -68,7 +68,7 @@ unfolding contentLength
 table-short k h = leb-true _ _ (tested 14 (λ k. leb (contentLength k) 16) refl k (h .0))
 
 -- no content is longer than eight objects
-length-bounds : (k : ℕ) → k < 14 → (n : ℕ) → isLength k n ≡ true → n ≤ 16
+pub length-bounds : (k : ℕ) → k < 14 → (n : ℕ) → isLength k n ≡ true → n ≤ 16
 unfolding isLength
 length-bounds =
     by-kind (λ k. (n : ℕ) → isLength k n ≡ true → n ≤ 16)

@@ -7,7 +7,7 @@ use Prim.Native.Nat.{ℕ, zero, suc, _+_, _-_, _*_, _≤_}
 use native.Mathlib.Omega.{arith}
 use lib.Dec.{ltb}
 use lib.ListN.{length, length-append}
-use borrow.Author.Tests.{ltb-false}
+use borrow.Author.Tests.{ltb-false, le-ltb}
 use Rattle.limits.specs as limits
 use Rattle.protocol.specs.declared.Refusal.the-variants.{InputTooLong}
 use Rattle.protocol.specs.Answers.{refusalNumber}
@@ -61,17 +61,22 @@ lines-short (suc k) input u within = go (readNext input (u .over) (u .at)) refl 
         rw (over-prints k input (continued u Next.Malformed .then) refl, append-nil (continued u Next.Malformed .line))
         (omega (arith, line-short u Next.Malformed))
 
+-- how long the output of an input is at the most
+pub printed-within : (input : List ℕ) → length input ≤ limits.input → length (printed input) ≤ 49 * length input + 294
+unfolding printed linesOn joined firstPrinted
+printed-within input small =
+    let first = firstRead untouched (nextAt input 0) in
+    rw (le-ltb limits.input (length input) small)
+    (elim (read-ahead-first untouched input (nextAt input 0) refl) [
+      | inl o ↦ rw (over-prints (length input) input (first .then) o) (simp length-append (omega (arith, first-short untouched (nextAt input 0))))
+      | inr p ↦ omega (arith, length-append (first .line) (joined (linesFrom (length input) input (first .then))), first-short untouched (nextAt input 0), lines-short (length input) input (first .then) (p .1))
+    ])
+
 -- 3,276,800 BYTES ARE ROOM FOR THE OUTPUT OF ANY INPUT
 pub printed-short : (input : List ℕ) → length (printed input) ≤ 3276800
 unfolding printed linesOn joined firstPrinted stopped
 printed-short input = go (ltb limits.input (length input)) refl
   where
-    at-first : Bool → Printed
-    at-first t = cond t (stopped untouched (noLine 0 (refusalNumber InputTooLong))) (firstRead untouched (nextAt input 0))
-
-    go : (t : Bool) → ltb limits.input (length input) ≡ t → length (at-first t .line ++ joined (linesFrom (length input) input (at-first t .then))) ≤ 3276800
-    go true e = rw (over-prints (length input) input (at-first true .then) refl) (simp length-append (omega (arith, refusal-length 0 (refusalNumber InputTooLong))))
-    go false e = elim (read-ahead-first untouched input (nextAt input 0) refl) [
-      | inl o ↦ rw (over-prints (length input) input (at-first false .then) o) (simp length-append (omega (arith, first-short untouched (nextAt input 0))))
-      | inr p ↦ omega (arith, length-append (at-first false .line) (joined (linesFrom (length input) input (at-first false .then))), first-short untouched (nextAt input 0), lines-short (length input) input (at-first false .then) (p .1), ltb-false limits.input (length input) e)
-    ]
+    go : (t : Bool) → ltb limits.input (length input) ≡ t → length (printed input) ≤ 3276800
+    go true e = rw e (rw (over-prints (length input) input (stopped untouched (noLine 0 (refusalNumber InputTooLong)) .then) refl) (simp length-append (omega (arith, refusal-length 0 (refusalNumber InputTooLong)))))
+    go false e = omega (arith, printed-within input (ltb-false limits.input (length input) e), ltb-false limits.input (length input) e)

@@ -1,0 +1,1 @@
+// Theorems alone: what holds of the records that a shortened run keeps (crates/shortening).
