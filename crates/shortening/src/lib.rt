@@ -60,27 +60,6 @@ fn has_record(s: &[u8], at: usize) -> bool
     }
 }
 
-fn replicas_of(x: Step) -> u8
-    ensures { λ r. ⌜ r ≡ replicasOf x ⌝ }
-{
-    match x {
-        Step::Start(n) => n,
-        Step::BeginRead(x) => 0,
-        Step::BeginWrite(x, v) => 0,
-        Step::Deliver(at, choice) => 0,
-        Step::Lose(at) => 0,
-        Step::Repeat(at) => 0,
-        Step::Advance(r) => 0,
-        Step::Replace(number) => 0,
-        Step::Tell(r) => 0,
-        Step::Remove(r) => 0,
-        Step::GiveUp(o) => 0,
-        Step::BeginContext(x) => 0,
-        Step::Join => 0,
-        Step::Copy => 0,
-    }
-}
-
 // The records behind the start, which ends at a position.
 fn scan_from(input: &[u8], from: usize) -> Met
     requires { ⌜ (from ≡ sizeAt (now input) 0) × (from ≤ length (now input)) × (from ≤ 19) ⌝ }
@@ -107,7 +86,7 @@ fn scan(input: &[u8]) -> Met
     }
     match reader::next_at(input, 0) {
         Next::Record(x, n) => {
-            if machine::start_refused(replicas_of(x)) {
+            if machine::start_refused(turns::replicas_of(x)) {
                 return Met::Replicas;
             }
             scan_from(input, size_at(input, 0))

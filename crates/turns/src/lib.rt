@@ -180,7 +180,7 @@ pub fn conclude(run: Run, found: Next, done: Stepped, out: &mut [u8], used: usiz
 
 // ---- the first record
 
-fn replicas_of(x: Step) -> u8
+pub fn replicas_of(x: Step) -> u8
     ensures { λ r. ⌜ r ≡ replicasOf x ⌝ }
 {
     match x {
