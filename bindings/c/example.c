@@ -1,7 +1,8 @@
 /* A load generator's inner loop: writes object after object, reads each while its write is pending, and prints the model's lines. Then it reads two objects at once. In the
- * end a server of a second store is swapped: a replica joins, gets copies and writes, and takes the place of another. */
+ * end a server of a second store is swapped: a replica joins, gets copies and writes, and takes the place of another; and starts that are refused leave it as it was. */
 #include "woldladle.h"
 #include <stdio.h>
+#include <string.h>
 
 static struct woldladle_model model;
 static uint32_t number;
@@ -101,6 +102,32 @@ static int swap_a_server(void) {
     return wrong;
 }
 
+/* A start by these bytes is refused with this number, and leaves all that is lent as it was; 0 if so. */
+static int refused_start(const uint8_t *record, size_t length, uint8_t refusal) {
+    static struct woldladle_model before;
+    memcpy(&before, &model, sizeof model);
+    int wrong = woldladle_model_start_record(&model, record, length) != refusal;
+    print_line();
+    wrong |= memcmp(before.switch_numbers, model.switch_numbers, sizeof model.switch_numbers) != 0;
+    wrong |= memcmp(before.opens, model.opens, sizeof model.opens) != 0;
+    wrong |= memcmp(before.packets, model.packets, sizeof model.packets) != 0;
+    wrong |= memcmp(before.store, model.store, sizeof model.store) != 0;
+    return wrong | (before.session.marks != model.session.marks) | (before.session.waiting != model.session.waiting);
+}
+
+static int refused_starts(void) {
+    int wrong = 0;
+    wrong |= step(2, 5, 9) != 0; /* a write, which waits */
+    wrong |= refused_start((const uint8_t[]){7, 7, 7}, 3, 1);
+    wrong |= refused_start((const uint8_t[]){12, 0, 0}, 3, 1);       /* a step's record */
+    wrong |= refused_start((const uint8_t[]){32, 0, 1}, 3, 1);       /* a byte too few */
+    wrong |= refused_start((const uint8_t[]){32, 0, 1, 2, 0}, 5, 1); /* .. and too many */
+    wrong |= refused_start((const uint8_t[]){32, 0, 1, 0}, 4, 2);
+    wrong |= refused_start((const uint8_t[]){32, 0, 1, 9}, 4, 2);
+    wrong |= step(3, 0, 0) != 0; /* the switch marks the write: the session goes on */
+    return wrong;
+}
+
 int main(void) {
     start(1);
     for (uint32_t object = 5; object < 8; object++) {
@@ -117,5 +144,5 @@ int main(void) {
     read_context((const uint16_t[]){7, 5}, 2);
     if (step(1, 1024, 0) != 3) /* refused: no such object */
         return 1;
-    return swap_a_server();
+    return swap_a_server() || refused_starts();
 }

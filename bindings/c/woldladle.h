@@ -13,7 +13,8 @@
  *
  * struct woldladle_model has all of it. The session is set to zeros before its first start; the rest may hold anything. From an accepted start on nobody but the
  * library writes in it, until the next accepted start. No pointer is kept, and what is lent lies apart. A `length` is in bytes; `places` counts packets, and `count`
- * objects or values. Every value of every argument is taken: what is not allowed is refused by the number that document 01 or 02 gives it.
+ * objects or values. Every value of every argument is taken: what is not allowed is refused by the number that document 01 or 02 gives it. A call takes less than 2 KB of
+ * stack, but for woldladle_run and woldladle_shorten, which say how much.
  */
 #ifndef WOLDLADLE_H
 #define WOLDLADLE_H
@@ -59,8 +60,9 @@ struct woldladle_packet {
     uint64_t own[3];
 };
 
-/* A start with n replicas, numbered 1 to n: an empty store, and the session all zeros. Refusal 2 (n outside 1 to 8): the session before it can go on. */
-void woldladle_start(struct woldladle_session *session, uint32_t *switch_numbers, uint32_t *store, uint32_t *opens, uint8_t n);
+/* The start of one record, all of whose `length` bytes are lent: replicas numbered 1 to n, an empty store, and the session all zeros. Refusals: 1 where the bytes are not one
+ * whole start record, and so for any other record; 2 for its numbers (n outside 1 to 8). After either the session before it can go on. */
+void woldladle_start(struct woldladle_session *session, uint32_t *switch_numbers, uint32_t *store, uint32_t *opens, const uint8_t *record, size_t length);
 
 /* The step of one record, all of whose `length` bytes are lent. Refusals in this order: 1 where the bytes are not one whole record, and for a start; 15 where there are
  * fewer than 64 places for packets; 3 to 13 as document 01 has them (4 once operation 4,294,967,295 is given), and 16, where a read of several objects names one twice, after 3 and before 4.
@@ -69,7 +71,7 @@ void woldladle_start(struct woldladle_session *session, uint32_t *switch_numbers
  *
  * Tag 12 begins the join of a replica, which gets the next number never used, and each tag 13 copies the next 64 objects to it from the tail. The sixteenth copy makes it
  * the tail; before that it is not live. To remove the tail ends the join. Refused: tag 12 by 17 where eight replicas are live or number 255 has been given, then by 18 where
- * a join is under way; tag 13 by 19 where none is, then by 17 where eight are live, which in a run never happens. */
+ * a join is under way; tag 13 by 19 where none is. */
 void woldladle_step(struct woldladle_session *session, uint32_t *switch_numbers, uint32_t *store, uint32_t *opens, struct woldladle_packet *packets, size_t places,
                     const uint8_t *record, size_t length);
 
@@ -101,7 +103,8 @@ uint64_t woldladle_stamp(const uint32_t *store, uint8_t replica, uint32_t object
 uint8_t woldladle_chain(const uint32_t *store, uint8_t out[WOLDLADLE_CHAIN]);
 
 /* Everything that the run program prints for a file of records. How many bytes the whole output has, whatever `room` is: `out` holds its whole lines, from the front up
- * to the first that does not fit, and every byte after them is as it was. It takes 73 KB of stack. */
+ * to the first that does not fit, and every byte after them is as it was. WOLDLADLE_RUN_STACK bytes are stack enough for it. */
+#define WOLDLADLE_RUN_STACK 131072
 size_t woldladle_run(const uint8_t *input, size_t length, uint8_t *out, size_t room);
 
 /* The records of a start with n replicas and of `steps` random steps, the same for the same seed on every machine, at the start of `out`; bytes beyond stay as they were. How
@@ -113,8 +116,9 @@ int64_t woldladle_draw(uint32_t seed, uint64_t n, uint64_t steps, uint8_t *out, 
 /* A shorter run whose last record is refused with the same number: the start, the last record and some between, unchanged and in order, at the start of `out`, such that
  * dropping any one more of those between changes that; bytes beyond stay as they were. How many bytes they have; or minus the refusal, and `out` is as it was: -14, then -1 or
  * -2, as the run of the input meets them; then -22 above 512 records; then -21 where the last record is not refused by its step; then -15 where `room` is less than they have.
- * It takes 0.7 MB of stack, and a second in the worst case that is known. */
+ * WOLDLADLE_SHORTEN_STACK bytes are stack enough for it. It takes a second in the worst case that is known. */
 #define WOLDLADLE_MOST_RECORDS 512
+#define WOLDLADLE_SHORTEN_STACK 655360
 int64_t woldladle_shorten(const uint8_t *input, size_t length, uint8_t *out, size_t room);
 
 /* All that a session is lent, and the calls over it. The switch begins with a cache line: where it lay across the end of a page, the average step took a tenth longer. */
@@ -127,9 +131,15 @@ struct __attribute__((aligned(64))) woldladle_model {
 };
 
 /* The refusal, or 0. */
-static inline uint8_t woldladle_model_start(struct woldladle_model *model, uint8_t n) {
-    woldladle_start(&model->session, model->switch_numbers, model->store, model->opens, n);
+static inline uint8_t woldladle_model_start_record(struct woldladle_model *model, const uint8_t *record, size_t length) {
+    woldladle_start(&model->session, model->switch_numbers, model->store, model->opens, record, length);
     return model->session.refusal;
+}
+
+/* A start with n replicas. */
+static inline uint8_t woldladle_model_start(struct woldladle_model *model, uint8_t n) {
+    const uint8_t record[4] = {32, 0, 1, n};
+    return woldladle_model_start_record(model, record, sizeof record);
 }
 
 static inline uint8_t woldladle_model_step(struct woldladle_model *model, const uint8_t *record, size_t length) {

@@ -122,23 +122,37 @@ struct Lent {
 impl Model {
     /// An empty store of `n` replicas, numbered from 1, or refusal 2.
     pub fn start(n: u8) -> Result<Model, u8> {
+        Model::start_record(&start_of(n))
+    }
+
+    /// An empty store as a start record has it, or refusal 1 where the bytes are not
+    /// one whole start record, or 2 for its numbers.
+    pub fn start_record(record: &[u8]) -> Result<Model, u8> {
         // Every field is made of numbers, which zeros are.
         let lent = unsafe { Box::<Lent>::new_zeroed().assume_init() };
         let mut model = Model(lent);
-        model.restart(n).map(|()| model)
+        model.restart_record(record).map(|()| model)
     }
 
     /// An empty store of `n` replicas in place of this one, or refusal 2, which
     /// leaves this one to go on.
     pub fn restart(&mut self, n: u8) -> Result<(), u8> {
-        // The pointers are to the fields, which have the sizes that the header names.
+        self.restart_record(&start_of(n))
+    }
+
+    /// The same by a start record. Refusal 1 or 2, as of `start_record`, leaves this
+    /// one to go on.
+    pub fn restart_record(&mut self, record: &[u8]) -> Result<(), u8> {
+        // The pointers are to the fields, which have the sizes that the header names;
+        // `record` is lent for the call only.
         unsafe {
             raw::woldladle_start(
                 &mut self.0.session,
                 self.0.switch.as_mut_ptr(),
                 self.0.store.as_mut_ptr(),
                 self.0.opens.as_mut_ptr(),
-                n,
+                record.as_ptr(),
+                record.len(),
             )
         };
         match self.0.session.refusal {
@@ -149,8 +163,7 @@ impl Model {
 
     /// The step of one record. Refusals of joins: tag 12 by 17 where eight replicas
     /// are live or number 255 has been given, then by 18 where a join is under way;
-    /// tag 13 by 19 where none is, then by 17 where eight are live, which in a run
-    /// never happens.
+    /// tag 13 by 19 where none is.
     #[inline]
     pub fn step(&mut self, record: &[u8]) -> Answer {
         self.step_within(PLACES, record)
@@ -160,7 +173,7 @@ impl Model {
     #[inline]
     fn step_within(&mut self, places: usize, record: &[u8]) -> Answer {
         assert!(places <= PLACES);
-        // As in `restart`; `record` is lent for the call only.
+        // As in `restart_record`.
         unsafe {
             raw::woldladle_step(
                 &mut self.0.session,
@@ -271,6 +284,11 @@ impl Model {
     }
 }
 
+/// The record of a start with `n` replicas.
+fn start_of(n: u8) -> [u8; 4] {
+    [32, 0, 1, n]
+}
+
 /// Writes the record of a tag with its numbers, 0 for one that it does not
 /// have (tags 12 and 13 have none, and tag 10 takes any operation and is written
 /// with length 4), at the start of `out`: how many bytes it has, or refusal 1 where no such record exists (tag 11 has `write_context`), or 15. A
@@ -304,6 +322,10 @@ pub fn write_context(objects: &[u16], out: &mut [u8]) -> Result<usize, u8> {
 pub fn record_length(tag: u8) -> usize {
     usize::from(unsafe { raw::woldladle_record_length(tag) })
 }
+
+/// Stack enough for `run`, and for `shorten`.
+pub const RUN_STACK: usize = 131_072;
+pub const SHORTEN_STACK: usize = 655_360;
 
 /// Everything that the run program prints for an input: how many bytes it has,
 /// whatever the room. `out` holds its whole lines, from the front up to the first
@@ -443,7 +465,8 @@ mod tests {
         }
     }
 
-    /// In a state with a wrong number stored, the number is handed on until a step sets it.
+    /// In a state with a wrong number stored, an accepted step hands the number on,
+    /// until one sets it; a refused step leaves the session its own.
     #[test]
     fn the_stored_number_of_marks_is_handed_on() {
         let mut model = Model::start(1).expect("one");
@@ -467,22 +490,53 @@ mod tests {
         assert_eq!(marks_after(None, &DELIVER), (8, false));
         assert_eq!(marks_after(None, &DELIVER), (0, false)); // the completion
         assert_eq!(marks_after(Some(7), &REPLACE), (0, false));
-        assert_eq!(marks_after(Some(7), &REPLACE), (7, true));
+        assert_eq!(marks_after(Some(7), &REPLACE), (0, true));
     }
 
-    /// In no run is a join under way with eight live; a state with both is refused.
     #[test]
-    fn a_copy_with_eight_live_is_refused_by_17() {
+    fn a_refusal_leaves_the_session_its_marks() {
+        let mut model = Model::start(1).expect("one");
+        model.0.switch[SWITCH - 1] = 7;
+        for marks in [0, 5, u32::MAX] {
+            model.0.session.marks = marks;
+            let before = model.bytes();
+            for (places, record, refusal) in [
+                (64, &[][..], 1),
+                (63, &BEGIN_A_READ[..], 15),
+                (64, &[1, 0, 2, 4, 0], 3),
+                (64, &DELIVER, 7),
+                (64, &[7, 0, 2, 0, 1], 11),
+                (64, &COPY, 19),
+            ] {
+                let answer = model.step_within(places, record);
+                assert_eq!(answer, Answer::Refused(refusal), "{record:?}");
+                assert!(model.bytes() == before, "{record:?}");
+                assert_eq!(model.0.session.marks, marks);
+            }
+            for (record, refusal) in [(&DELIVER[..], 1), (&[32, 0, 1, 9], 2)] {
+                assert_eq!(model.restart_record(record), Err(refusal));
+                assert!(model.bytes() == before, "{record:?}");
+            }
+        }
+        assert_eq!(model.step(&BEGIN_A_READ), Answer::Done);
+        assert_eq!(model.marks(), 7);
+    }
+
+    /// In no run is a join begun and not ended with eight live; in a state with both
+    /// none is under way.
+    #[test]
+    fn no_join_is_under_way_with_eight_live() {
         let mut model = Model::start(8).expect("eight");
         assert_eq!(model.step(&COPY), Answer::Refused(19));
         for made in 1..=17 {
             model.0.store[STORE - 1] = made;
             let before = model.bytes();
-            for record in [COPY, JOIN] {
-                assert_eq!(model.step(&record), Answer::Refused(17), "{made}");
+            for (record, refusal) in [(COPY, 19), (JOIN, 17)] {
+                assert_eq!(model.step(&record), Answer::Refused(refusal), "{made}");
                 assert!(model.bytes() == before, "{made}");
             }
             assert_eq!(model.chain().live, [1, 2, 3, 4, 5, 6, 7, 8]);
+            assert_eq!(model.chain().newcomer, None);
         }
     }
 

@@ -31,7 +31,8 @@ extern "C" {
         switch: *mut u32,
         store: *mut u32,
         opens: *mut u32,
-        n: u8,
+        record: *const u8,
+        length: usize,
     );
     pub fn woldladle_step(
         session: &mut Session,

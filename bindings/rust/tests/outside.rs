@@ -1,7 +1,7 @@
 //! The two libraries from outside, in one program: the same lines as the second
 //! model, refusals that change nothing, and what a file of records cannot reach.
-//! Reads of several objects, joins, drawn and shortened runs have modules of their
-//! own.
+//! Reads of several objects, joins, drawn and shortened runs and the stack have
+//! modules of their own.
 
 #[path = "outside/contexts.rs"]
 mod contexts;
@@ -11,6 +11,8 @@ mod draws;
 mod joins;
 #[path = "outside/shortening.rs"]
 mod shortening;
+#[path = "outside/stack.rs"]
+mod stack;
 
 use second_model::generate::{generate, Random, KINDS};
 use second_model::{records, run::output};
@@ -141,6 +143,56 @@ fn a_refusal_changes_no_byte() {
     assert!(refused > 1000 && done > 1000, "{refused} {done}");
 }
 
+/// Starts that are refused: by 1 where the bytes are not one whole start record, by 2
+/// where there are not 1 to 8 replicas.
+const REFUSED_STARTS: [(&[u8], u8); 17] = [
+    (&[], 1),
+    (&[32], 1),
+    (&[32, 0, 1], 1),              // a byte too few
+    (&[32, 0, 1, 3, 0], 1),        // .. and too many
+    (&[32, 0, 1, 3, 12, 0, 0], 1), // .. and a step
+    (&[32, 0, 0], 1),
+    (&[32, 0, 2, 3, 0], 1), // a length that no start has
+    (&[32, 1, 0, 3], 1),
+    (&[0, 0, 1, 3], 1), // no such tag
+    (&[14, 0, 1, 3], 1),
+    (&[33, 0, 1, 3], 1),
+    (&[9, 0, 1, 3], 1), // a step
+    (&[12, 0, 0], 1),
+    (&[10, 0, 2, 0, 1], 1),
+    (&[32, 0, 1, 0], 2),
+    (&[32, 0, 1, 9], 2),
+    (&[32, 0, 1, 255], 2),
+];
+
+#[test]
+fn a_start_is_one_whole_start_record() {
+    for (record, refusal) in REFUSED_STARTS {
+        let started = Model::start_record(record);
+        assert_eq!(started.err(), Some(refusal), "{record:?}");
+    }
+    for n in 0..=255 {
+        let by_record = Model::start_record(&[32, 0, 1, n]).map(|model| model.bytes());
+        assert!(
+            by_record == Model::start(n).map(|model| model.bytes()),
+            "{n}"
+        );
+    }
+    let mut random = Random::new(13);
+    for _ in 0..20_000 {
+        let bytes = 0..random.below(7);
+        let bytes: Vec<u8> = bytes
+            .map(|_| random.one_of(&[0, 1, 2, 9, 12, 32]))
+            .collect();
+        let expected = match bytes[..] {
+            [32, 0, 1, 1..=8] => None,
+            [32, 0, 1, _] => Some(2),
+            _ => Some(1),
+        };
+        assert_eq!(Model::start_record(&bytes).err(), expected, "{bytes:?}");
+    }
+}
+
 #[test]
 fn a_refused_restart_leaves_the_session_going_on() {
     let mut random = Random::new(7);
@@ -149,12 +201,15 @@ fn a_refused_restart_leaves_the_session_going_on() {
     let mut waited = 0;
     for number in 2..3000 {
         let mut restarted = model.clone();
-        for n in [0, 9, 255] {
-            assert_eq!(restarted.restart(n), Err(2));
-            assert!(restarted.bytes() == model.bytes());
+        let before = model.bytes();
+        for _ in 0..3 {
+            let (start, refusal) = random.one_of(&REFUSED_STARTS);
+            assert_eq!(restarted.restart_record(start), Err(refusal), "{start:?}");
+            assert!(restarted.bytes() == before, "{start:?}");
+            let size = restarted.line(number, &mut other);
+            let line = format!("{number} no {refusal}\n");
+            assert_eq!(other[..size], *line.as_bytes());
         }
-        let size = restarted.line(number, &mut other);
-        assert_eq!(other[..size], *format!("{number} no 2\n").as_bytes());
         let record = random_record(&mut random, &model);
         assert_eq!(restarted.step(&record), model.step(&record));
         assert!(restarted.bytes() == model.bytes(), "{record:?}");
@@ -167,6 +222,7 @@ fn a_refused_restart_leaves_the_session_going_on() {
         model = restarted;
     }
     assert!(waited > 1000, "{waited}");
+    assert_eq!(model.restart(0), Err(2));
     assert_eq!(model.restart(8), Ok(()));
     assert_eq!((model.waiting(), model.marks()), (0, 0));
     let size = model.line(1, &mut line);

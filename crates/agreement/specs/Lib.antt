@@ -1,9 +1,10 @@
--- When the bytes of one list stand in another.
+-- When the bytes of one list stand in another, and the outputs that are compared.
 use mathlib.Core.Bool.{Bool, true, false, cond}
-use mathlib.Core.List.{List}
+use mathlib.Core.List.{List, [], _++_}
 use Prim.Native.Nat.{ℕ, zero, suc, _+_}
 use lib.Dec.{leb, eqb}
-use lib.ListN.{length, getD}
+use lib.ListN.{length, getD, take}
+use Rattle.runs.specs.Runs.{printed}
 
 -- the first n bytes of a part stand in s from a place on
 unfoldable pub agreeTo : List ℕ → ℕ → List ℕ → ℕ → Bool
@@ -16,3 +17,16 @@ standsIn s at part = cond (leb (at + length part) (length s)) (agreeTo s at part
 
 unfoldable pub sameBytes : List ℕ → List ℕ → Bool
 sameBytes a b = cond (eqb (length a) (length b)) (standsIn a 0 b) false
+
+-- room for the output of any input
+abbrev pub outputRoom : ℕ
+outputRoom = 3276800
+
+-- the outputs of an input that is cut after 0, 1 and so on up to n - 1 bytes, one after the other
+unfoldable pub outputsTo : ℕ → List ℕ → List ℕ
+outputsTo zero input = []
+outputsTo (suc n) input = outputsTo n input ++ printed (take n input)
+
+-- cut at each of its bytes in turn, and not cut
+abbrev pub outputsOf : List ℕ → List ℕ
+outputsOf input = outputsTo (length input + 1) input

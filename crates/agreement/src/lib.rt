@@ -1,9 +1,10 @@
 // Whether the model prints for a stored example what another model prints for it.
 ghost use mathlib.Core.Path.{_≡_};
-ghost use Prim.Native.Nat.{_+_, _≤_, min};
-ghost use lib.ListN.{length};
+ghost use Prim.Native.Nat.{ℕ, _+_, _≤_, min};
+ghost use lib.ListN.{length, take};
 ghost use Rattle.io.specs.Counts.{Counts};
-ghost use Rattle.agreement.specs.{standsIn, sameBytes};
+ghost use Rattle.runs.specs.Runs.{printed};
+ghost use Rattle.agreement.specs.{standsIn, sameBytes, outputRoom, outputsOf};
 
 // Whether the bytes of `part` stand in `s` from a place on.
 fn stands_at(s: &[u8], at: usize, part: &[u8]) -> bool
@@ -35,7 +36,7 @@ fn same(a: &[u8], b: &[u8]) -> bool
 }
 
 fn least(a: usize, b: usize) -> usize
-    ensures { λ r. ⌜ (r ≤ a) × (r ≤ b) ⌝ }
+    ensures { λ r. ⌜ r ≡ min a b ⌝ }
 {
     if a < b {
         return a;
@@ -70,15 +71,19 @@ pub fn read_named(name: &[u8], suffix: &[u8], buf: &mut [u8]) -> usize
     n
 }
 
-// The output of an input goes into the buffer, as far as it has room. How many of its bytes are that output.
+// The output of an input, at the start of a buffer that has room for any. How many bytes it has.
 fn print(input: &[u8], out: &mut [u8]) -> usize
-    ensures { λ r. ⌜ Counts r (now (out .exit)) ⌝ }
+    requires { ⌜ outputRoom ≤ length (now out) ⌝ }
+    ensures { λ r. ⌜ Counts r (now (out .exit)) × (take r (now (out .exit)) ≡ printed (now (input .entry))) ⌝ }
 {
-    least(runs::print(input, &mut *out), out.len())
+    runs::print(input, &mut *out)
 }
 
-// Whether the model prints for the example what is expected.
-pub fn agrees(name: &[u8], input: &mut [u8], expected: &mut [u8], out: &mut [u8]) -> bool {
+// Whether the model prints for the example what is expected: its records and its lines are read from two files, into the front of two buffers.
+pub fn agrees(name: &[u8], input: &mut [u8], expected: &mut [u8], out: &mut [u8]) -> bool
+    requires { ⌜ outputRoom ≤ length (now out) ⌝ }
+    ensures { λ r. ⌜ ((n : ℕ) × (m : ℕ) × (r ≡ sameBytes (printed (take n (now (input .exit)))) (take m (now (expected .exit))))) ⌝ }
+{
     let n = read_named(name, b".records", &mut *input);
     let m = read_named(name, b".lines", &mut *expected);
     let used = print(&input[..n], &mut *out);
@@ -99,7 +104,10 @@ pub fn after(s: &[u8], at: usize, n: usize) -> usize
 }
 
 // Whether the model prints for the input, cut at each of its bytes in turn, what is expected, one output after the other.
-pub fn cuts_agree(input: &[u8], expected: &[u8], out: &mut [u8]) -> bool {
+pub fn cuts_agree(input: &[u8], expected: &[u8], out: &mut [u8]) -> bool
+    requires { ⌜ outputRoom ≤ length (now out) ⌝ }
+    ensures { λ r. ⌜ r ≡ sameBytes (now (expected .entry)) (outputsOf (now (input .entry))) ⌝ }
+{
     let mut at = 0;
     let mut cut = 0;
     while cut <= input.len() {

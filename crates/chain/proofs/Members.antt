@@ -1,6 +1,6 @@
 -- The laws of the chain's shape for the crates above, so that they never open its cells: which tables are its members', and at which places.
 use mathlib.Core.Path.{_≡_, refl, sym, ap, _∙_}
-use mathlib.Core.Bool.{Bool, true, false, cond}
+use mathlib.Core.Bool.{true, false}
 use mathlib.Core.List.{List, List·Memᴰ, Memᴰ·cast}
 use Prim.Native.Nat.{ℕ, _-_, _≤_, _<_}
 use native.Mathlib.Omega.{arith}
@@ -13,12 +13,7 @@ use Rattle.lists.proofs.Index.{index-first, index-at, in-index, at-in}
 use Rattle.lists.proofs.Places.{length-listOf, getD-listOf}
 use Rattle.store.specs.{liveCount, orderAt, members, permittedBy}
 use Rattle.chain.specs.{chainPlace, isLive, memberAt, headOf, tailOf, permits, allPermit}
-use Rattle.lists.proofs.AllOf.{all-pass, all-fail, all-member}
-
--- what holds of both ways of a test holds of its outcome
-pub by-test : {A : Type 0} (P : A → Type 0) (t : Bool) (x y : A) → (t ≡ true → P x) → (t ≡ false → P y) → P (cond t x y)
-by-test P true x y f g = f refl
-by-test P false x y f g = g refl
+use Rattle.lists.proofs.AllOf.{all-member}
 
 -- ---- the members
 
@@ -126,19 +121,3 @@ module _ (s t : List ℕ) (e : members s ≡ members t) where
 pub all-permit-in : (s : List ℕ) (number r : ℕ) → allPermit s number ≡ true → List·Memᴰ r (members s) → permittedBy s r ≡ number
 unfolding allPermit permits
 all-permit-in s number r e m = eqb-true (permittedBy s r) number (all-member (permits s number) (members s) r e m)
-
--- ---- as loops over the cells find it
-
--- every live replica permits the switch; one does not
-pub permit-all : (s : List ℕ) (number : ℕ) → ((k : ℕ) → k < liveCount s → permits s number (orderAt s k) ≡ true) → allPermit s number ≡ true
-unfolding allPermit
-permit-all s number h =
-    all-pass (permits s number) (members s) (λ k b.
-    let below : k < liveCount s = omega (arith, count-members s) in
-    ap (permits s number) (sym (member-is s k) ∙ member-order s k below) ∙ h k below)
-
-pub permit-lacks : (s : List ℕ) (number k : ℕ) → k < liveCount s → permits s number (orderAt s k) ≡ false → allPermit s number ≡ false
-unfolding allPermit
-permit-lacks s number k b e =
-    all-fail (permits s number) (members s) k (omega (arith, count-members s))
-    (ap (permits s number) (sym (member-is s k) ∙ member-order s k b) ∙ e)

@@ -1,16 +1,17 @@
 -- The laws of the replicas' numbers, which packets and steps name: at which place the replica with a number stands, and which table it has.
 use mathlib.Core.Path.{_≡_, refl, sym, ap, _∙_}
-use mathlib.Core.Bool.{true}
+use mathlib.Core.Bool.{Bool, true, false}
 use mathlib.Core.List.{List}
 use Prim.Native.Nat.{ℕ, _+_, _-_, _%_, _≤_, _<_}
 use native.Mathlib.Nat.{mod-lt}
 use native.Mathlib.Omega.{arith}
 use lib.ListN.{length, getD, List·getD-eq-default}
-use borrow.Author.Tests.{ltb-true, lt-ltb, eqb-true}
+use lib.Dec.{eqb}
+use borrow.Author.Tests.{ltb-true, lt-ltb, eqb-true, eqb-false, eq-eqb, ne-eqb}
 use Rattle.lists.proofs.Index.{index-first, index-none, index-at}
 use Rattle.lists.proofs.Places.{length-listOf, getD-listOf}
 use Rattle.store.specs.{liveCount, numberAt}
-use Rattle.chain.specs.{isLive, memberAt, tailOf, numbers, placeOf, isMember, isTail, tableOf, numberIn, headNumber, tailNumber, chosenBy}
+use Rattle.chain.specs.{isLive, memberAt, tailOf, numbers, placeOf, isMember, isTail, tableOf, numberIn, headNumber, tailNumber, readReplicaOf, isReadPlace, isReadReplica, chosenBy}
 use Rattle.chain.proofs.Members.{member-in, in-live, tail-is}
 
 -- ---- the numbers in chain order
@@ -100,3 +101,27 @@ tail-place s r e = eqb-true (placeOf s r + 1) (liveCount s) e
 pub tail-table : (s : List ℕ) (r : ℕ) → isTail s r ≡ true → tableOf s r ≡ tailOf s
 unfolding tableOf
 tail-table s r e = ap (memberAt s) (omega (arith, tail-place s r e)) ∙ sym (tail-is s)
+
+-- ---- the replica that answers normal reads
+
+pub read-place-none : (s : List ℕ) (p : ℕ) → liveCount s ≡ 0 → isReadPlace s p ≡ false
+unfolding isReadPlace
+read-place-none s p e = ne-eqb (p + 1) (liveCount s) (λ d. omega (arith, d, e))
+
+-- its place is the last
+pub read-place-last : (s : List ℕ) (p : ℕ) → 0 < liveCount s → isReadPlace s p ≡ eqb p (liveCount s - 1)
+unfolding isReadPlace
+read-place-last s p h = go (eqb p (liveCount s - 1)) refl
+  where
+    go : (t : Bool) → eqb p (liveCount s - 1) ≡ t → eqb (p + 1) (liveCount s) ≡ t
+    go true e = eq-eqb (p + 1) (liveCount s) (omega (arith, eqb-true p (liveCount s - 1) e))
+    go false e = ne-eqb (p + 1) (liveCount s) (λ d. eqb-false p (liveCount s - 1) e (omega (arith, d)))
+
+-- it is the tail
+pub read-replica-is : (s : List ℕ) → readReplicaOf s ≡ tailOf s
+unfolding readReplicaOf
+read-replica-is s = refl
+
+pub read-replica-tail : (s : List ℕ) (r : ℕ) → isReadReplica s r ≡ isTail s r
+unfolding isReadReplica isReadPlace isTail
+read-replica-tail s r = refl

@@ -6,7 +6,7 @@ use lib.ListN.{getD, set, replicate}
 use lib.Dec.{eqb, ltb}
 use Rattle.limits.specs as limits
 use Rattle.lists.specs.{moves, indexOf, listOf, allOf}
-use Rattle.store.specs.{liveCell, orderCell, permitCell, lastNumberCell, storeCells, rowOf, liveCount, orderAt, numberAt, members, permittedBy}
+use Rattle.store.specs.{liveCell, orderCell, permitCell, lastNumberCell, storeCells, rowOf, named, liveCount, orderAt, numberAt, members, permittedBy}
 
 -- ---- by tables
 
@@ -61,6 +61,21 @@ tailNumber s = numberIn s (liveCount s - 1)
 unfoldable pub chosenBy : List ℕ → ℕ → ℕ
 chosenBy s choice = numberIn s (choice % liveCount s)
 
+-- ---- the replica that answers normal reads: the tail
+
+unfoldable pub readReplicaOf : List ℕ → ℕ
+readReplicaOf s = tailOf s
+
+unfoldable pub readReplicaNumber : List ℕ → ℕ
+readReplicaNumber s = tailNumber s
+
+-- it stands at this place
+unfoldable pub isReadPlace : List ℕ → ℕ → Bool
+isReadPlace s place = eqb (place + 1) (liveCount s)
+
+unfoldable pub isReadReplica : List ℕ → ℕ → Bool
+isReadReplica s r = isReadPlace s (placeOf s r)
+
 -- ---- permits
 
 unfoldable pub permits : List ℕ → ℕ → ℕ → Bool
@@ -97,7 +112,7 @@ emptyCells = replicate storeCells 0
 -- 'Replicas are numbered 1 to n at the start', with permitted switch number 1: the first k of them, each with the table of its number
 unfoldable pub numbered : List ℕ → ℕ → List ℕ
 numbered s zero = s
-numbered s (suc k) = set (set (numbered s k) (orderCell k) (257 * (k + 1))) (permitCell k) 1
+numbered s (suc k) = set (set (numbered s k) (orderCell k) (named (k + 1) (k + 1))) (permitCell k) 1
 
 unfoldable pub emptyStore : ℕ → List ℕ
 emptyStore n = set (set (numbered emptyCells limits.replicas) liveCell n) lastNumberCell n

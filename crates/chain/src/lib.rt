@@ -2,7 +2,7 @@
 ghost use mathlib.Core.Path.{_≡_};
 ghost use Prim.Native.Nat.{_≤_, _<_};
 ghost use Rattle.store.specs.{liveCount, orderAt, numberAt};
-ghost use Rattle.chain.specs.{memberAt, headOf, tailOf, placeOf, numberIn, headNumber, tailNumber, chosenBy, permits, allPermit, permitting, removed, numbered, emptyStore};
+ghost use Rattle.chain.specs.{memberAt, headOf, tailOf, placeOf, numberIn, headNumber, tailNumber, readReplicaOf, readReplicaNumber, isReadPlace, chosenBy, permits, allPermit, permitting, removed, numbered, emptyStore};
 use limits::Number;
 use limits::REPLICAS;
 use limits::Replica;
@@ -103,6 +103,30 @@ pub fn tail_number(cells: &[u32; CELLS]) -> Replica
     number_at(cells, n - 1)
 }
 
+// The replica that answers normal reads, by its table and by its number: the tail.
+pub fn read_replica(cells: &[u32; CELLS]) -> Table
+    ensures { λ r. ⌜ r ≡ readReplicaOf (now (cells .entry)) ⌝ }
+{
+    tail(cells)
+}
+
+pub fn read_replica_number(cells: &[u32; CELLS]) -> Replica
+    ensures { λ r. ⌜ r ≡ readReplicaNumber (now (cells .entry)) ⌝ }
+{
+    tail_number(cells)
+}
+
+// Whether it stands at this place.
+pub fn is_read_place(cells: &[u32; CELLS], place: usize) -> bool
+    ensures { λ r. ⌜ r ≡ isReadPlace (now (cells .entry)) place ⌝ }
+{
+    let n = count(cells);
+    if n == 0 {
+        return false;
+    }
+    place == n - 1
+}
+
 // The live replica that a choice names: at place (choice mod number of live replicas).
 pub fn choose(cells: &[u32; CELLS], choice: u8) -> Replica
     ensures { λ r. ⌜ r ≡ chosenBy (now (cells .entry)) choice ⌝ }
@@ -189,7 +213,8 @@ fn number(cells: &mut [u32; CELLS])
 {
     let mut i: usize = 0;
     while i < REPLICAS {
-        cells[ORDER + i] = 257 * (i as u32 + 1);
+        let number = i as u32 + 1;
+        cells[ORDER + i] = 256 * number + number;
         cells[PERMITS + i] = 1;
         i += 1;
     }

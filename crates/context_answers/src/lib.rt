@@ -3,7 +3,8 @@ ghost use mathlib.Core.Path.{_≡_};
 ghost use Rattle.lists.specs.{allOf};
 ghost use Rattle.store.specs.{valueAt};
 ghost use Rattle.contexts.specs.{numbersOf, mapped};
-ghost use Rattle.protocol.specs.Contexts.{isNotAbove, answersContext, answeringContext, directContext, normalContext, contextReply};
+ghost use Rattle.replicas.specs.Replicas.{isNotAbove, answersDirect};
+ghost use Rattle.protocol.specs.Contexts.{answeringContext, directContext, normalContext, contextReply};
 use contexts::Context;
 use limits::Number;
 use limits::Object;
@@ -17,15 +18,6 @@ use protocol::Message;
 
 // ---- to a replica
 
-fn is_not_above(store: &[u32; store::CELLS], q: Table, t: Stamp, x: Object) -> bool
-    ensures { λ r. ⌜ r ≡ isNotAbove (now (store .entry)) q t x ⌝ }
-{
-    if stamp::above(store::read_stamp(store, q, x), t) {
-        return false;
-    }
-    true
-}
-
 // Whether no object's stamp is above the one carried.
 fn none_above(store: &[u32; store::CELLS], q: Table, t: Stamp, v: Context) -> bool
     ensures { λ r. ⌜ r ≡ allOf (isNotAbove (now (store .entry)) q t) (numbersOf v) ⌝ }
@@ -33,7 +25,7 @@ fn none_above(store: &[u32; store::CELLS], q: Table, t: Stamp, v: Context) -> bo
     let n = contexts::size(v);
     let mut i: usize = 0;
     while i < n {
-        if !is_not_above(store, q, t, contexts::place(v, i)) {
+        if !replicas::is_not_above(store, q, t, contexts::place(v, i)) {
             return false;
         }
         i += 1;
@@ -42,7 +34,7 @@ fn none_above(store: &[u32; store::CELLS], q: Table, t: Stamp, v: Context) -> bo
 }
 
 fn answers(store: &[u32; store::CELLS], q: Table, number: Number, t: Stamp, v: Context) -> bool
-    ensures { λ r. ⌜ r ≡ answersContext (now (store .entry)) q number t v ⌝ }
+    ensures { λ r. ⌜ r ≡ answersDirect (now (store .entry)) q number t (numbersOf v) ⌝ }
 {
     if store::permitted(store, q) != number as u32 {
         return false;
@@ -110,14 +102,13 @@ pub fn direct_read(
         return context_rows::drop_row(&mut *opens, at, r);
     }
     let table = chain::member(store, place);
-    let v = contexts::load(opens, r);
-    if !contexts::is_context(v) {
-        return context_rows::drop_row(&mut *opens, at, r);
-    }
-    if answers(store, table, number, t, v) {
+    if answers(store, table, number, t, contexts::load(opens, r)) {
         return answer(store, &mut *opens, at, table, o, r);
     }
-    decisions::pass_on(at, Message::NormalContext(chain::tail_number(store), o, r))
+    decisions::pass_on(
+        at,
+        Message::NormalContext(chain::read_replica_number(store), o, r),
+    )
 }
 
 pub fn normal_read(
@@ -136,11 +127,11 @@ pub fn normal_read(
     if n <= place {
         return context_rows::drop_row(&mut *opens, at, r);
     }
-    if !contexts::is_context(contexts::load(opens, r)) {
-        return context_rows::drop_row(&mut *opens, at, r);
-    }
-    if place + 1 != n {
-        return decisions::pass_on(at, Message::NormalContext(chain::tail_number(store), o, r));
+    if !chain::is_read_place(store, place) {
+        return decisions::pass_on(
+            at,
+            Message::NormalContext(chain::read_replica_number(store), o, r),
+        );
     }
     answer(store, &mut *opens, at, chain::member(store, place), o, r)
 }
@@ -154,9 +145,6 @@ pub fn finish(opens: &mut [u32; operations::CELLS], at: usize, o: Operation, r: 
         return context_rows::drop_row(&mut *opens, at, r);
     }
     let v = contexts::load(opens, r);
-    if !contexts::is_count(v.count) {
-        return context_rows::drop_row(&mut *opens, at, r);
-    }
     operations::close(&mut *opens, o);
     contexts::free(&mut *opens, r);
     Decision {

@@ -2,7 +2,8 @@
 ghost use mathlib.Core.Path.{_≡_};
 ghost use Rattle.lists.specs.{allOf};
 ghost use Rattle.contexts.specs.{numbersOf};
-ghost use Rattle.protocol.specs.Contexts.{isUnmarked, goesDirectly, contextRead};
+ghost use Rattle.protocol.specs.Reads.{isUnmarked, goesDirectly};
+ghost use Rattle.protocol.specs.Contexts.{contextRead};
 use contexts::Context;
 use limits::Object;
 use limits::Operation;
@@ -32,7 +33,7 @@ fn none_marked(switch: &[u32; switch::CELLS], v: Context) -> bool
 }
 
 fn goes_directly(switch: &[u32; switch::CELLS], v: Context) -> bool
-    ensures { λ r. ⌜ r ≡ goesDirectly (now (switch .entry)) v ⌝ }
+    ensures { λ r. ⌜ r ≡ goesDirectly (now (switch .entry)) (numbersOf v) ⌝ }
 {
     if !cells::is_direct(switch) {
         return false;
@@ -52,12 +53,11 @@ pub fn switch_read(
     ensures { λ d. ⌜ (d ≡ contextRead (now (switch .entry)) (now (store .entry)) (now (opens .entry)) at choice o r .decision)
         × (now (opens .exit) ≡ contextRead (now (switch .entry)) (now (store .entry)) (now (opens .entry)) at choice o r .opens) ⌝ }
 {
-    let v = contexts::load(opens, r);
-    if !contexts::is_context(v) {
-        return context_rows::drop_row(&mut *opens, at, r);
-    }
-    if !goes_directly(switch, v) {
-        return decisions::pass_on(at, Message::NormalContext(chain::tail_number(store), o, r));
+    if !goes_directly(switch, contexts::load(opens, r)) {
+        return decisions::pass_on(
+            at,
+            Message::NormalContext(chain::read_replica_number(store), o, r),
+        );
     }
     let to = chain::choose(store, choice);
     let number = cells::number(switch);

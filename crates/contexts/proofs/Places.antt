@@ -1,19 +1,20 @@
 -- The numbers of a context by their places, and what the loops over them find.
 use mathlib.Core.Path.{_≡_, refl, sym, ap, _∙_}
-use mathlib.Core.Bool.{Bool, true, false, cond}
+use mathlib.Core.Bool.{true, false}
 use mathlib.Core.List.{List, _∷_, map, List·Memᴰ}
 use Prim.Native.Nat.{ℕ, zero, suc, _≤_, _<_}
 use native.Mathlib.Omega.{arith}
 use lib.Dec.{leb}
 use lib.ListN.{length, getD}
 use borrow.Author.Tests.{eq-eqb, ne-eqb, lt-ltb, ltb-true, leb-true}
-use Rattle.lists.specs.{indexOf, listOf, allOf}
-use Rattle.lists.proofs.AllOf.{all-pass, all-fail, all-member}
+use Rattle.lists.specs.{indexOf, listOf}
+use Rattle.lists.proofs.AllOf.{all-pass, all-member}
 use Rattle.lists.proofs.Index.{index-first, index-none, at-in}
+use Rattle.lists.proofs.Tests.{two-pass}
 use Rattle.lists.proofs.Places.{length-listOf, getD-listOf, listOf-same}
 use Rattle.contexts.specs.declared.Context.{Context}
 use Rattle.contexts.specs.declared.Objects.{Objects}
-use Rattle.contexts.specs.{placeOf, sizeOf, numbersOf, keptAt, mapped, isObject, areObjects, standsFirst, areDifferent, isCount, isContext, emptyAt, isNaming}
+use Rattle.contexts.specs.{placeOf, sizeOf, numbersOf, keptAt, mapped, isObject, areObjects, standsFirst, isCount, isContext, emptyAt, isNaming}
 
 pub size-most : (v : Context) → sizeOf v ≤ 8
 unfolding sizeOf
@@ -30,24 +31,6 @@ length-numbers v = length-listOf (placeOf v) (sizeOf v)
 pub number-at : (v : Context) (i : ℕ) → i < sizeOf v → getD (numbersOf v) i 0 ≡ placeOf v i
 unfolding numbersOf
 number-at v i h = getD-listOf (placeOf v) (sizeOf v) i h
-
--- ---- a test of every number
-
-module _ (test : ℕ → Bool) (v : Context) where
-  pub numbers-pass : ((k : ℕ) → k < sizeOf v → test (placeOf v k) ≡ true) → allOf test (numbersOf v) ≡ true
-  numbers-pass h =
-      all-pass test (numbersOf v) (λ k b. let s : k < sizeOf v = omega (arith, b, length-numbers v) in ap test (number-at v k s) ∙ h k s)
-
-  pub numbers-fail : (k : ℕ) → k < sizeOf v → test (placeOf v k) ≡ false → allOf test (numbersOf v) ≡ false
-  numbers-fail k b e = all-fail test (numbersOf v) k (omega (arith, b, length-numbers v)) (ap test (number-at v k b) ∙ e)
-
-pub objects-pass : (v : Context) → ((k : ℕ) → k < sizeOf v → isObject (placeOf v k) ≡ true) → areObjects v ≡ true
-unfolding areObjects
-objects-pass v h = numbers-pass isObject v h
-
-pub objects-fail : (v : Context) (k : ℕ) → k < sizeOf v → isObject (placeOf v k) ≡ false → areObjects v ≡ false
-unfolding areObjects
-objects-fail v k b e = numbers-fail isObject v k b e
 
 -- ---- the first place of a number
 
@@ -67,19 +50,6 @@ stands-first v i h e = eq-eqb _ i (ap (indexOf (numbersOf v)) (number-at v i h) 
 pub stands-later : (v : Context) (i : ℕ) → i < sizeOf v → (indexOf (numbersOf v) (placeOf v i) ≡ i → ⊥) → standsFirst (numbersOf v) i ≡ false
 unfolding standsFirst
 stands-later v i h n = ne-eqb _ i (λ e. n (sym (ap (indexOf (numbersOf v)) (number-at v i h)) ∙ e))
-
-pub different-pass : (v : Context) → ((k : ℕ) → k < sizeOf v → standsFirst (numbersOf v) k ≡ true) → areDifferent v ≡ true
-unfolding areDifferent
-different-pass v h =
-    all-pass (standsFirst (numbersOf v)) (listOf (λ i. i) (sizeOf v)) (λ k b.
-    let s : k < sizeOf v = omega (arith, b, length-listOf (λ i. i) (sizeOf v)) in
-    ap (standsFirst (numbersOf v)) (getD-listOf (λ i. i) (sizeOf v) k s) ∙ h k s)
-
-pub different-fail : (v : Context) (k : ℕ) → k < sizeOf v → standsFirst (numbersOf v) k ≡ false → areDifferent v ≡ false
-unfolding areDifferent
-different-fail v k b e =
-    all-fail (standsFirst (numbersOf v)) (listOf (λ i. i) (sizeOf v)) k (omega (arith, b, length-listOf (λ i. i) (sizeOf v)))
-    (ap (standsFirst (numbersOf v)) (getD-listOf (λ i. i) (sizeOf v) k b) ∙ e)
 
 -- ---- a function of every number
 
@@ -115,11 +85,7 @@ numbers-mapped f v =
 
 pub count-some : (n : ℕ) → isCount n ≡ true → 2 ≤ n
 unfolding isCount
-count-some n e = go (leb 2 n) refl e
-  where
-    go : (b : Bool) → leb 2 n ≡ b → cond b (leb n 8) false ≡ true → 2 ≤ n
-    go true c f = leb-true 2 n c
-    go false c f = absurd (let z : _≡_ {A = ℕ} 0 1 = cc in omega arith)
+count-some n e = leb-true 2 n (two-pass (leb 2 n) (leb n 8) e .0)
 
 -- the last place decides where the others are as they should be
 pub naming-last : (x : Objects) → isCount (x .count) ≡ true → emptyAt (x .count) 2 (x .third) ≡ true → emptyAt (x .count) 3 (x .fourth) ≡ true
@@ -128,15 +94,10 @@ pub naming-last : (x : Objects) → isCount (x .count) ≡ true → emptyAt (x .
 unfolding isNaming
 naming-last x n a b c d e = rw (n, a, b, c, d, e)
 
--- of two tests that both hold, the first does
-first-holds : (b rest : Bool) → cond b rest false ≡ true → b ≡ true
-first-holds true rest e = refl
-first-holds false rest e = absurd (let z : _≡_ {A = ℕ} 0 1 = cc in omega arith)
-
 -- there are 2 to 8 objects
 pub naming-count : (x : Objects) → isNaming x ≡ true → isCount (x .count) ≡ true
 unfolding isNaming
-naming-count x e = first-holds (isCount (x .count)) _ e
+naming-count x e = two-pass (isCount (x .count)) _ e .0
 
 -- each object is one that there is
 pub objects-small : (v : Context) → areObjects v ≡ true → (x : ℕ) → List·Memᴰ x (numbersOf v) → x < 1024

@@ -24,7 +24,7 @@ fn decide_step(
         (decided (given (now (switch .entry)) (now (store .entry)) (now (opens .entry)) held) p x) ⌝ }
 {
     match x {
-        Step::Start(n) => decisions::refuse(Refusal::Format),
+        Step::Start(b) => decisions::refuse(Refusal::Format),
         Step::BeginRead(x) => begins::begin(&mut *opens, held, false, x as Object, 0),
         Step::BeginWrite(x, v) => begins::begin(&mut *opens, held, true, x as Object, v),
         Step::Deliver(at, choice) => packet_delivery::deliver(
@@ -54,20 +54,10 @@ fn is_malformed(x: Step) -> bool
     ensures { λ r. ⌜ r ≡ isMalformed x ⌝ }
 {
     match x {
-        Step::Start(n) => true,
-        Step::BeginRead(x) => false,
-        Step::BeginWrite(x, v) => false,
-        Step::Deliver(at, choice) => false,
-        Step::Lose(at) => false,
-        Step::Repeat(at) => false,
-        Step::Advance(r) => false,
+        Step::Start(b) => true,
         Step::Replace(number) => false,
-        Step::Tell(r) => false,
-        Step::Remove(r) => false,
-        Step::GiveUp(o) => false,
         Step::BeginContext(x) => !contexts::is_naming(x),
-        Step::Join => false,
-        Step::Copy => false,
+        _ => false,
     }
 }
 

@@ -1,48 +1,47 @@
 -- The steps that are drawn: each has a record of at most nine bytes, and so a run of 7,000 has room in 65,536.
 use mathlib.Core.Path.{_≡_, refl, sym, ap, _∙_}
-use mathlib.Core.Bool.{Bool, true, false, cond, false≢true}
-use mathlib.Core.List.{List, [], _∷_, _++_, append-nil}
+use mathlib.Core.Bool.{true, false, cond}
+use mathlib.Core.List.{List, [], _++_, append-nil}
 use Prim.Native.Nat.{ℕ, zero, suc, _+_, _*_, _-_, _%_, _≤_, _<_}
 use native.Mathlib.Nat.{add-zero}
 use native.Mathlib.Omega.{arith}
-use lib.Dec.{eqb, ltb}
+use lib.Dec.{eqb}
 use lib.ListN.{length, take, drop, length-append, take-append-drop}
-use borrow.Author.Tests.{le-leb, ltb-false}
-use Rattle.limits.specs as limits
+use borrow.Author.Tests.{eqb-false, le-leb}
+use Rattle.lists.proofs.Tests.{by-test}
+use Rattle.protocol.specs.declared.Setup.the-variants.{Chain}
 use Rattle.protocol.specs.declared.Step.{Step}
 use Rattle.protocol.specs.declared.Step.the-variants.{Start, BeginRead, BeginWrite, Deliver, Lose, Repeat, Advance, Replace, Tell, Remove, GiveUp}
-use Rattle.protocol.specs.Steps.{startRefused}
 use Rattle.records.specs.Records.{twoBytes, fourBytes, contentOf, recordOf, isStart, isWritable, hasRoom, bufferAfter}
 use Rattle.records.proofs.Table.{record-size}
 use Rattle.lines.specs.Text.{pasted}
 use Rattle.lines.proofs.Text.{length-pasted, pasted-twice}
-use Rattle.draws.specs.{stepFrom, kindFrom, upperOf, drawn, stepDrawn, seedAfter, stepsDrawn, recordsOf, bytesDrawn, mostSteps}
+use Rattle.draws.specs.{stepFrom, kindFrom, stepDrawn, seedAfter, stepsDrawn, recordsOf, bytesDrawn, mostSteps}
+
+-- the kind that is drawn is 1 to 10
+drawn-kind : (draw : ℕ) → (1 ≤ kindFrom draw) × (kindFrom draw ≤ 10)
+unfolding kindFrom
+drawn-kind draw = (omega arith, omega arith)
+
+-- a kind is n, or above it
+or-above : (P : Step → Type 0) (k n : ℕ) {x y : Step} → n ≤ k → P x → (n + 1 ≤ k → P y) → P (cond (eqb k n) x y)
+or-above P k n least p above = by-test P (eqb k n) (λ is. p) (λ other. above (omega (arith, eqb-false k n other)))
 
 -- what holds of a step of each kind holds of every step that is drawn
-by-kind : (P : Step → Type 0) (k a b : ℕ) → P (BeginRead (a % 1024)) → P (BeginWrite (a % 1024) b) → P (Deliver (a % 64) (b % 256)) → P (Lose (a % 64))
-    → P (Repeat (a % 64)) → P (Advance (a % 8 + 1)) → P (Replace a) → P (Tell (a % 8 + 1)) → P (Remove (a % 8 + 1)) → P (GiveUp a) → P (stepFrom k a b)
+by-kind : (P : Step → Type 0) (draw a b : ℕ) → P (BeginRead (a % 1024)) → P (BeginWrite (a % 1024) b) → P (Deliver (a % 64) (b % 256)) → P (Lose (a % 64))
+    → P (Repeat (a % 64)) → P (Advance (a % 8 + 1)) → P (Replace a) → P (Tell (a % 8 + 1)) → P (Remove (a % 8 + 1)) → P (GiveUp a) → P (stepFrom (kindFrom draw) a b)
 unfolding stepFrom
-by-kind P k a b p₁ p₂ p₃ p₄ p₅ p₆ p₇ p₈ p₉ p₁₀ =
-    go (eqb k 1) (eqb k 2) (eqb k 3) (eqb k 4) (eqb k 5) (eqb k 6) (eqb k 7) (eqb k 8) (eqb k 9)
+by-kind P draw a b p₁ p₂ p₃ p₄ p₅ p₆ p₇ p₈ p₉ p₁₀ = go (kindFrom draw) (drawn-kind draw .0) (drawn-kind draw .1)
   where
-    go : (t₁ t₂ t₃ t₄ t₅ t₆ t₇ t₈ t₉ : Bool) → P (
-        cond t₁ (BeginRead (a % 1024))
-        (cond t₂ (BeginWrite (a % 1024) b)
-        (cond t₃ (Deliver (a % 64) (b % 256))
-        (cond t₄ (Lose (a % 64))
-        (cond t₅ (Repeat (a % 64))
-        (cond t₆ (Advance (a % 8 + 1)) (cond t₇ (Replace a) (cond t₈ (Tell (a % 8 + 1)) (cond t₉ (Remove (a % 8 + 1)) (GiveUp a)))))))))
-        )
-    go true t₂ t₃ t₄ t₅ t₆ t₇ t₈ t₉ = p₁
-    go false true t₃ t₄ t₅ t₆ t₇ t₈ t₉ = p₂
-    go false false true t₄ t₅ t₆ t₇ t₈ t₉ = p₃
-    go false false false true t₅ t₆ t₇ t₈ t₉ = p₄
-    go false false false false true t₆ t₇ t₈ t₉ = p₅
-    go false false false false false true t₇ t₈ t₉ = p₆
-    go false false false false false false true t₈ t₉ = p₇
-    go false false false false false false false true t₉ = p₈
-    go false false false false false false false false true = p₉
-    go false false false false false false false false false = p₁₀
+    go : (k : ℕ) → 1 ≤ k → k ≤ 10 → P (stepFrom k a b)
+    go k least most =
+        or-above P k 1 least p₁
+        (λ h. or-above P k 2 h p₂
+        (λ h. or-above P k 3 h p₃
+        (λ h. or-above P k 4 h p₄
+        (λ h. or-above P k 5 h p₅
+        (λ h. or-above P k 6 h p₆
+        (λ h. or-above P k 7 h p₇ (λ h. or-above P k 8 h p₈ (λ h. or-above P k 9 h p₉ (λ h. or-above P k 10 h p₁₀ (λ h. absurd (omega arith)))))))))))
 
 -- it can be written
 pub drawn-writable : (seed : ℕ) → isWritable (stepDrawn seed) ≡ true
@@ -87,15 +86,15 @@ steps-short (suc k) seed = omega (arith, length-append (recordOf (stepDrawn seed
 
 -- ---- the whole run
 
-pub bytes-are : (seed n steps : ℕ) → bytesDrawn seed n steps ≡ recordOf (Start n) ++ recordsOf (stepsDrawn steps seed)
+pub bytes-are : (seed n steps : ℕ) → bytesDrawn seed n steps ≡ recordOf (Start (Chain n)) ++ recordsOf (stepsDrawn steps seed)
 unfolding bytesDrawn recordsOf
 bytes-are seed n steps = refl
 
-pub start-size : (n : ℕ) → length (recordOf (Start n)) ≡ 4
-start-size n = record-size (Start n)
+pub start-size : (n : ℕ) → length (recordOf (Start (Chain n))) ≡ 4
+start-size n = record-size (Start (Chain n))
 
 pub bytes-size : (seed n steps : ℕ) → length (bytesDrawn seed n steps) ≡ 4 + length (recordsOf (stepsDrawn steps seed))
-bytes-size seed n steps = ap length (bytes-are seed n steps) ∙ length-append (recordOf (Start n)) _ ∙ ap (λ (k : ℕ). k + length (recordsOf (stepsDrawn steps seed))) (start-size n)
+bytes-size seed n steps = ap length (bytes-are seed n steps) ∙ length-append (recordOf (Start (Chain n))) _ ∙ ap (λ (k : ℕ). k + length (recordsOf (stepsDrawn steps seed))) (start-size n)
 
 -- 7,000 STEPS ALWAYS HAVE ROOM IN 65,536 BYTES
 pub drawn-room : (seed n steps : ℕ) → steps ≤ mostSteps → length (bytesDrawn seed n steps) ≤ 65536
@@ -148,30 +147,21 @@ module _ (b : List ℕ) (at k seed : ℕ) (some : 0 < k) (room : at + length (re
 
 -- ---- the whole run, written
 
-module _ (b : List ℕ) (seed n steps : ℕ) (room : length (bytesDrawn seed n steps) ≤ length b) (b₁ : List ℕ) (began : b₁ ≡ bufferAfter b 0 (Start n)) where
-  start-room : 0 + length (recordOf (Start n)) ≤ length b
+module _ (b : List ℕ) (seed n steps : ℕ) (room : length (bytesDrawn seed n steps) ≤ length b) (b₁ : List ℕ) (began : b₁ ≡ bufferAfter b 0 (Start (Chain n))) where
+  start-room : 0 + length (recordOf (Start (Chain n))) ≤ length b
   start-room = omega (arith, room, bytes-size seed n steps, start-size n)
 
   -- the steps have room behind the start
   pub rest-room : 4 + length (recordsOf (stepsDrawn steps seed)) ≤ length b₁
-  rest-room = omega (arith, room, bytes-size seed n steps, ap length began, length-written b 0 (Start n) refl start-room)
+  rest-room = omega (arith, room, bytes-size seed n steps, ap length began, length-written b 0 (Start (Chain n)) refl start-room)
 
   pub run-written : pasted b₁ 4 (recordsOf (stepsDrawn steps seed)) ≡ bytesDrawn seed n steps ++ drop (length (bytesDrawn seed n steps)) b
   run-written =
-      let first = recordOf (Start n) in
+      let first = recordOf (Start (Chain n)) in
       let rest = recordsOf (stepsDrawn steps seed) in
       let place : 4 ≡ 0 + length first = omega (arith, start-size n) in
       let none : 0 + length (first ++ rest) ≡ length (first ++ rest) = omega arith in
-      (λ j. pasted ((began ∙ written-is b 0 (Start n) refl start-room) j) (place j) rest) ∙
+      (λ j. pasted ((began ∙ written-is b 0 (Start (Chain n)) refl start-room) j) (place j) rest) ∙
       pasted-twice b 0 first start-room rest ∙
       ap (λ (i : ℕ). first ++ rest ++ drop i b) none ∙
       ap (λ (l : List ℕ). l ++ drop (length l) b) (sym (bytes-are seed n steps))
-
--- a start that is not refused has at most eight replicas
-pub start-most : (n : ℕ) → startRefused n ≡ false → n ≤ 8
-unfolding startRefused
-start-most n e = go (eqb n 0) e
-  where
-    go : (t : Bool) → cond t true (ltb limits.replicas n) ≡ false → n ≤ 8
-    go true q = absurd (false≢true (sym q))
-    go false q = ltb-false 8 n q

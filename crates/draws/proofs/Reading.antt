@@ -1,13 +1,12 @@
 -- READING THE DRAWN BYTES BACK GIVES THE DRAWN STEPS, all of them, and then the end.
 use mathlib.Core.Path.{_≡_, refl, sym, ap, _∙_}
-use mathlib.Core.Bool.{true, false}
-use mathlib.Core.List.{List, [], _∷_, _++_}
-use Prim.Native.Nat.{ℕ, zero, suc, _+_, _≤_, _<_}
+use mathlib.Core.List.{List, _++_}
+use Prim.Native.Nat.{ℕ, zero, suc, _+_, _<_}
 use native.Mathlib.Omega.{arith}
-use lib.Dec.{eqb}
 use lib.ListN.{length, drop, length-drop}
 use lib.Seq.{drop-at, drop-drop}
 use borrow.Author.Tests.{ne-eqb}
+use Rattle.protocol.specs.declared.Setup.the-variants.{Chain}
 use Rattle.protocol.specs.declared.Step.{Step}
 use Rattle.protocol.specs.declared.Step.the-variants.{Start}
 use Rattle.records.specs.Records.{recordOf, isStart}
@@ -35,7 +34,7 @@ unfolding isStart
 bytes-read seed n steps =
     let l : List ℕ = bytesDrawn seed n steps in
     let rest : List ℕ = recordsOf (stepsDrawn steps seed) in
-    let all : drop 0 l ≡ recordOf (Start n) ++ rest = bytes-are seed n steps in (
-      next-found l 0 (0 + length (recordOf (Start n))) (Start n) (read-at (Start n) l rest 0 refl all) refl,
-      steps-read steps seed l (0 + length (recordOf (Start n))) (omega (arith, start-size n)) (behind l 0 (recordOf (Start n)) rest all),
+    let all : drop 0 l ≡ recordOf (Start (Chain n)) ++ rest = bytes-are seed n steps in (
+      next-found l 0 (0 + length (recordOf (Start (Chain n)))) (Start (Chain n)) (read-at (Start (Chain n)) l rest 0 refl all) refl,
+      steps-read steps seed l (0 + length (recordOf (Start (Chain n)))) (omega (arith, start-size n)) (behind l 0 (recordOf (Start (Chain n))) rest all),
     )

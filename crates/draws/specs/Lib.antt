@@ -6,12 +6,12 @@ use Prim.Native.Nat.{ℕ, zero, suc, _+_, _*_, _/_, _%_}
 use lib.Dec.{eqb, leb, ltb}
 use lib.IntN.{ℤ, pos, negℤ}
 use lib.ListN.{length, drop}
-use Rattle.limits.specs as limits
 use Rattle.protocol.specs.declared.Refusal.the-variants.{Replicas, BufferTooShort}
+use Rattle.protocol.specs.declared.Setup.the-variants.{Missing, Chain}
 use Rattle.protocol.specs.declared.Step.{Step}
 use Rattle.protocol.specs.declared.Step.the-variants.{Start, BeginRead, BeginWrite, Deliver, Lose, Repeat, Advance, Replace, Tell, Remove, GiveUp}
 use Rattle.protocol.specs.Answers.{refusalNumber}
-use Rattle.protocol.specs.Steps.{startRefused}
+use Rattle.protocol.specs.Starts.{startRefused}
 use Rattle.records.specs.declared.Next.{Next}
 use Rattle.records.specs.Records.{recordOf, nextAt}
 
@@ -38,7 +38,7 @@ stepFrom k a b =
     (cond (eqb k 4) (Lose (a % 64))
     (cond (eqb k 5) (Repeat (a % 64))
     (cond (eqb k 6) (Advance (a % 8 + 1))
-    (cond (eqb k 7) (Replace a) (cond (eqb k 8) (Tell (a % 8 + 1)) (cond (eqb k 9) (Remove (a % 8 + 1)) (GiveUp a)))))))))
+    (cond (eqb k 7) (Replace a) (cond (eqb k 8) (Tell (a % 8 + 1)) (cond (eqb k 9) (Remove (a % 8 + 1)) (cond (eqb k 10) (GiveUp a) (Start Missing))))))))))
 
 -- a write and a deliver have two fields, every other of these steps has one
 unfoldable pub hasTwo : ℕ → Bool
@@ -65,7 +65,7 @@ recordsOf (s ∷ ss) = recordOf s ++ recordsOf ss
 
 -- 'After the start record': the run that a seed draws, and its bytes; 0 steps give the start alone
 abbrev pub runDrawn : ℕ → ℕ → ℕ → List Step
-runDrawn seed n steps = Start n ∷ stepsDrawn steps seed
+runDrawn seed n steps = Start (Chain n) ∷ stepsDrawn steps seed
 
 unfoldable pub bytesDrawn : ℕ → ℕ → ℕ → List ℕ
 bytesDrawn seed n steps = recordsOf (runDrawn seed n steps)
@@ -82,7 +82,7 @@ tooManySteps = 20
 -- 'Refused: 2 as before, then 20 above 7,000 steps, then 15 for the whole run', which is found too long before a byte is written; 0 for none
 unfoldable pub drawRefusal : ℕ → ℕ → ℕ → ℕ → ℕ
 drawRefusal room seed n steps =
-    cond (startRefused n) (refusalNumber Replicas)
+    cond (startRefused (Chain n)) (refusalNumber Replicas)
     (cond (ltb mostSteps steps) tooManySteps (cond (leb (length (bytesDrawn seed n steps)) room) 0 (refusalNumber BufferTooShort)))
 
 -- 'their number is returned': the length, or minus the refusal

@@ -5,7 +5,9 @@ ghost use mathlib.Core.List.{_++_};
 ghost use lib.ListN.{length, drop};
 ghost use Rattle.draws.specs.{drawn, upperOf, kindFrom, stepFrom, hasTwo, stepDrawn, seedAfter, stepsDrawn, recordsOf, bytesDrawn, mostSteps, drawAnswer, drawBuffer};
 ghost use Rattle.lines.specs.Text.{pasted};
-ghost use Rattle.protocol.specs.Steps.{startRefused};
+ghost use Rattle.protocol.specs.declared.Setup.the-variants.{Chain};
+ghost use Rattle.protocol.specs.Starts.{startRefused};
+use protocol::Setup;
 use protocol::Step;
 
 // The most steps of a drawn run.
@@ -65,7 +67,8 @@ fn step_from(kind: u16, a: u16, b: u16) -> Step
         7 => Step::Replace(a),
         8 => Step::Tell(replica(a)),
         9 => Step::Remove(replica(a)),
-        _ => Step::GiveUp(a as u32),
+        10 => Step::GiveUp(a as u32),
+        _ => Step::Start(Setup::Missing),
     }
 }
 
@@ -136,12 +139,12 @@ fn put(out: &mut [u8], seed: u32, n: u8, steps: u64)
     requires { ⌜ (steps ≤ mostSteps) × (length (bytesDrawn seed n steps) ≤ length (now out)) ⌝ }
     ensures { λ _. ⌜ now (out .exit) ≡ bytesDrawn seed n steps ++ drop (length (bytesDrawn seed n steps)) (now (out .entry)) ⌝ }
 {
-    records::write_at(&mut *out, 0, Step::Start(n));
+    records::write_at(&mut *out, 0, Step::Start(Setup::Chain(n)));
     write(&mut *out, 4, seed, steps);
 }
 
 fn is_start_refused(n: u64) -> bool
-    ensures { λ r. ⌜ r ≡ startRefused n ⌝ }
+    ensures { λ r. ⌜ r ≡ startRefused (Chain n) ⌝ }
 {
     if n == 0 {
         return true;

@@ -3,11 +3,12 @@
 ghost use mathlib.Core.Path.{_≡_};
 ghost use Prim.Native.Nat.{_≤_};
 ghost use lib.ListN.{length};
+ghost use Rattle.agreement.specs.{outputRoom};
 use libc::STDOUT_FILENO;
 
 // Room for the lines of any input: `printed-short`, crates/runs/proofs/Whole.antt.
 fn output_room() -> [u8; 3276800]
-    ensures { λ r. ⌜ 3276800 ≡ length r ⌝ }
+    ensures { λ r. ⌜ outputRoom ≡ length r ⌝ }
 {
     [0; 3276800]
 }
@@ -24,7 +25,9 @@ fn count_differing(
     input: &mut [u8],
     expected: &mut [u8],
     out: &mut [u8],
-) -> u32 {
+) -> u32
+    requires { ⌜ outputRoom ≤ length (now out) ⌝ }
+{
     if agreement::agrees(name, &mut *input, &mut *expected, &mut *out) {
         return differ;
     }
@@ -47,7 +50,9 @@ fn report(tried: u32, differ: u32) {
 }
 
 // The examples that the index names, one to a line.
-fn try_named(index: &[u8], input: &mut [u8], expected: &mut [u8], out: &mut [u8]) {
+fn try_named(index: &[u8], input: &mut [u8], expected: &mut [u8], out: &mut [u8])
+    requires { ⌜ outputRoom ≤ length (now out) ⌝ }
+{
     let mut tried = 0;
     let mut differ = 0;
     let mut at = 0;
@@ -81,7 +86,9 @@ fn line_end(s: &[u8], at: usize) -> usize
     i
 }
 
-fn try_cuts(input: &mut [u8], expected: &mut [u8], out: &mut [u8]) {
+fn try_cuts(input: &mut [u8], expected: &mut [u8], out: &mut [u8])
+    requires { ⌜ outputRoom ≤ length (now out) ⌝ }
+{
     let n = agreement::read_named(b"listing", b".records", &mut *input);
     let m = agreement::read_named(b"listing-cuts", b".lines", &mut *expected);
     if agreement::cuts_agree(&input[..n], &expected[..m], &mut *out) {

@@ -5,10 +5,11 @@ use mathlib.Core.List.{List, [], _∷_, _++_, map, Memᴰ·map, Memᴰ·of-map}
 use Prim.Native.Nat.{ℕ}
 use native.Mathlib.Omega.{arith}
 use lib.Dec.{eqb}
+use Rattle.lists.proofs.Tests.{by-test}
 use Rattle.history.specs.History.{_∈_, Kind, reads, writes, History, begun, finished, Finished, Precedes}
 use Rattle.history.specs.Linearizability.{WritesTo, NoWrite, LastWrote, LastWrites, OneOrder}
 use Rattle.history.proofs.Lists.{here, there, no-member, cases-cons, in-left, inserted, Pairwise, pairwise-imply, pairwise-ahead, pairwise-map, ahead-or, same-member, cut-map}
-use Rattle.history.proofs.Tests.{by-test, eqb-true, eqb-false}
+use Rattle.history.proofs.Tests.{eqb-true, eqb-false}
 use Rattle.history.proofs.Entries.{Entry, Store, empty, put, after, Right, Legal, legal-at, IsWrite, MayPrecede, Linearizes}
 use Rattle.history.proofs.Growth.{begun-at, finished-at, precedes-finished}
 
@@ -42,7 +43,7 @@ module _ (h : History) (one-kind : (o : ℕ) (k l : Kind) → begun o k ∈ h �
       apart : {z : ℕ} → reads ys ≡ writes x z → ⊥
       apart e = let n : _≡_ {A = ℕ} 0 1 = cc in omega arith
   last-cons {o} {v} s x (writes y u) {os} m (inr t) =
-      by-test (λ (c : ℕ). v ≡ c → LastOr (s x) x (o ∷ os) v) (eqb y x) _ _
+      by-test (λ (c : ℕ). v ≡ c → LastOr (s x) x (o ∷ os) v) (eqb y x)
       (λ q g. inl ([], o, os, refl, subst (λ (k : Kind). begun o k ∈ h) (ap₂ writes (eqb-true y x q) (sym g)) m, t .0))
       (λ q g. inr (no-write-cons (λ w. eqb-false y x q (same (one-kind o (writes y u) (writes x (w .0)) m (w .1)))) (t .0), g))
       (t .1)

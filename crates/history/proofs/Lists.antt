@@ -11,6 +11,7 @@ use Rattle.history.specs.Linearizability.{Ahead}
 -- membership under short names
 pub use mathlib.Core.List.{List·Memᴰ·head as here, List·Memᴰ·tail as there, List·Memᴰ·not-nil as no-member, List·Memᴰ·eq-of-singleton as only-member}
 pub use mathlib.Core.List.{List·Memᴰ·cases-cons as cases-cons, List·Memᴰ·append-cases as cases-append, Memᴰ·append-left as in-left, Memᴰ·append-right as in-right}
+use Rattle.lists.proofs.Tests.{both}
 
 module _ {A : Type 0} where
   infix 4 _∉_

@@ -5,10 +5,11 @@ use mathlib.Core.Logic.{inl, inr}
 use mathlib.Core.Bool.{Bool, true, false, cond}
 use mathlib.Core.List.{List, [], _∷_, _++_, map}
 use Prim.Native.Nat.{ℕ}
+use Rattle.lists.proofs.Tests.{by-test}
 use Rattle.history.specs.History.{_∈_, History}
 use Rattle.history.specs.Linearizability.{Ahead}
 use Rattle.history.proofs.Lists.{here, there, no-member, cases-cons, in-right}
-use Rattle.history.proofs.Tests.{equal, by-test, equal-true, equal-self}
+use Rattle.history.proofs.Tests.{equal, equal-true, equal-self}
 use Rattle.history.proofs.Entries.{Entry, read-entry, Store, empty, put, after}
 use Rattle.history.proofs.Readable.{Readable, placed}
 
@@ -34,7 +35,7 @@ module _ (test : Store → Bool) (r : Entry) where
   -- if the store passes the test after a front part, it does so at some place
   passes-after : (s : Store) (front back : List Entry) → test (after s front) ≡ true → passes test s (front ++ back) ≡ true
   passes-after s [] [] p = p
-  passes-after s [] (e ∷ back) p = by-test (λ (b : Bool). b ≡ true) (passes test (put (e .kind) s) back) _ _ (λ q. refl) (λ q. p)
+  passes-after s [] (e ∷ back) p = by-test (λ (b : Bool). b ≡ true) (passes test (put (e .kind) s) back) (λ q. refl) (λ q. p)
   passes-after s (e ∷ front) back p = rw (passes-after (put (e .kind) s) front back p)
 
   -- the same cut, with one operation more before it
@@ -71,14 +72,14 @@ module _ (test : Store → Bool) (r : Entry) where
   in-place : {f : Entry} (s : Store) (es : List Entry) → f ∈ es → f ∈ place test r s es
   in-place s [] m = absurd (no-member m)
   in-place {f} s (e ∷ es) m =
-      by-test (λ (l : List Entry). f ∈ l) (passes test (put (e .kind) s) es) _ _
+      by-test (λ (l : List Entry). f ∈ l) (passes test (put (e .kind) s) es)
       (λ q. elim (cases-cons m) [ inl z ↦ here z | inr t ↦ there (in-place (put (e .kind) s) es t) ])
       (λ q. there m)
 
   pub ahead-place : (f g : Entry) (s : Store) (es : List Entry) → Ahead f g es → Ahead f g (place test r s es)
   ahead-place f g s [] h = absurd h
   ahead-place f g s (e ∷ es) h =
-      by-test (Ahead f g) (passes test (put (e .kind) s) es) _ _
+      by-test (Ahead f g) (passes test (put (e .kind) s) es)
       (λ q. elim h [ inl z ↦ inl (z .0, in-place (put (e .kind) s) es (z .1)) | inr t ↦ inr (ahead-place f g (put (e .kind) s) es t) ])
       (λ q. inr h)
 

@@ -31,6 +31,10 @@ module _ {h : History} {es : List Entry} {o : ℕ} {xs vs : List ℕ} {was : Lis
   pub linearizes-placed : Linearizes h es → begun o (reads xs) ∈ h → Unfinished h o → Linearizes (finished o vs ∷ h) (placed r)
   linearizes-placed l m w = linearizes-read (r .front) (r .back) (subst (Linearizes h) (r .cut) l) m w (r .gives) (r .free)
 
+  -- whatever it was answered from
+  pub readable-forget : Readable h es o xs vs []
+  readable-forget = record { front = r .front; back = r .back; cut = r .cut; gives = r .gives; free = r .free; after-was = λ f m. absurd (no-member m) }
+
   -- it stays readable: (1) when another operation begins
   pub readable-begin : {n : ℕ} {k : Kind} → New h n → Begun h o → Readable (begun n k ∷ h) es o xs vs was
   readable-begin {k} w b = record { front = r .front; back = r .back; cut = r .cut; gives = r .gives; free = λ f m p. r .free f m (precedes-begin k w b p); after-was = r .after-was }

@@ -1,15 +1,11 @@
--- Tests: what a test chooses, and the test whether two lists are equal. The laws of `eqb` are the kit's.
+-- The test whether two lists are equal. The laws of `eqb` are the kit's.
 use mathlib.Core.Path.{_≡_, refl, ap₂}
 use mathlib.Core.Bool.{Bool, true, false, cond}
 use mathlib.Core.List.{List, [], _∷_}
 use Prim.Native.Nat.{ℕ}
 use lib.Dec.{eqb}
 pub use borrow.Author.Tests.{eqb-true, eqb-false, eq-eqb, ne-eqb}
-
--- a fact of what is chosen, from a proof for each result of the test
-pub by-test : {A : Type 0} (P : A → Type 0) (b : Bool) (x y : A) → (b ≡ true → P x) → (b ≡ false → P y) → P (cond b x y)
-by-test P true x y f g = f refl
-by-test P false x y f g = g refl
+use Rattle.lists.proofs.Tests.{by-test}
 
 -- whether two lists are equal
 abbrev pub equal : List ℕ → List ℕ → Bool
@@ -24,7 +20,7 @@ equal-true [] [] e = refl
 equal-true [] (y ∷ ys) e = cc
 equal-true (x ∷ xs) [] e = cc
 equal-true (x ∷ xs) (y ∷ ys) e =
-    by-test (λ (b : Bool). b ≡ true → x ∷ xs ≡ y ∷ ys) (eqb x y) _ _
+    by-test (λ (b : Bool). b ≡ true → x ∷ xs ≡ y ∷ ys) (eqb x y)
     (λ q r. ap₂ (λ (z : ℕ) (l : List ℕ). z ∷ l) (eqb-true x y q) (equal-true xs ys r))
     (λ q r. cc)
     e

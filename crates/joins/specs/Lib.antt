@@ -7,12 +7,16 @@ use lib.Dec.{eqb, leb, ltb}
 use lib.ListN.{getD, set}
 use Rattle.limits.specs as limits
 use Rattle.store.specs.declared.Write.{Write}
-use Rattle.store.specs.{liveCell, orderCell, lastNumberCell, joinCell, liveCount, orderAt, numberAt, highestOf, permittedBy, appliedBy, valueAt, stampAt, tabled, raised}
+use Rattle.store.specs.{liveCell, orderCell, lastNumberCell, joinCell, named, liveCount, orderAt, numberAt, highestOf, permittedBy, appliedBy, valueAt, stampAt, tabled, raised}
 use Rattle.chain.specs.{tailOf, placeOf, isTail, permitting, removed}
 
--- a join is under way
+-- the cell of a join is set
+unfoldable pub isJoinSet : List ℕ → Bool
+isJoinSet s = not (eqb (getD s joinCell 0) 0)
+
+-- a join is under way: there is a place for the newcomer behind the live replicas
 unfoldable pub isJoining : List ℕ → Bool
-isJoining s = not (eqb (getD s joinCell 0) 0)
+isJoining s = cond (leb limits.replicas (liveCount s)) false (isJoinSet s)
 
 -- the copies made so far: below 16 in every state
 unfoldable pub copiesMade : List ℕ → ℕ
@@ -34,10 +38,10 @@ lastNumber s = getD s lastNumberCell 0 % 256
 unfoldable pub isFull : List ℕ → Bool
 isFull s = cond (leb limits.replicas (liveCount s)) true (leb limits.lastReplica (lastNumber s))
 
--- 'Tag 12 begins a join; the newcomer gets the next number never used.' It takes the first free table
+-- 'Tag 12 (length 0) begins a join; the newcomer gets the next number never used.' It takes the first free table
 unfoldable pub beginning : List ℕ → List ℕ
 beginning s =
-    set (set (set s (orderCell (liveCount s)) (256 * (lastNumber s + 1) + newcomer s)) lastNumberCell (lastNumber s + 1)) joinCell 1
+    set (set (set s (orderCell (liveCount s)) (named (lastNumber s + 1) (newcomer s))) lastNumberCell (lastNumber s + 1)) joinCell 1
 
 -- ---- a copy
 
@@ -59,7 +63,7 @@ unfoldable pub promoted : List ℕ → List ℕ
 promoted s =
     set (set (permitting (raised s (newcomer s) (highestOf s (tailOf s)) (appliedBy s (tailOf s))) (newcomer s) (permittedBy s (tailOf s))) liveCell (liveCount s + 1)) joinCell 0
 
--- 'Each tag 13 copies the next 64 objects, from object 0 up, with values and stamps from the tail'
+-- 'Each tag 13 (length 0) copies the next 64 objects, from object 0 up, with values and stamps from the tail'
 unfoldable pub oneCopy : List ℕ → List ℕ
 oneCopy s = copied s (newcomer s) (tailOf s) (limits.copiedAtOnce * copiesMade s) limits.copiedAtOnce
 

@@ -21,6 +21,9 @@ use store::Write;
 pub fn is_joining(cells: &[u32; CELLS]) -> bool
     ensures { λ r. ⌜ r ≡ isJoining (now (cells .entry)) ⌝ }
 {
+    if REPLICAS <= chain::count(cells) {
+        return false;
+    }
     cells[JOIN] != 0
 }
 

@@ -3,18 +3,20 @@ use mathlib.Core.Path.{_≡_, refl, _∙_}
 use mathlib.Core.Logic.{_≢_}
 use mathlib.Core.Bool.{Bool, true, false, cond}
 use mathlib.Core.List.{List, [], _∷_, _++_, append-assoc}
-use Prim.Native.Nat.{ℕ, zero, suc, _+_, _/_, _%_, _≤_, _<_}
+use Prim.Native.Nat.{ℕ, zero, suc, _+_, _-_, _*_, _/_, _%_, _≤_, _<_}
+use native.Mathlib.Decide.{ℕ-discrete}
 use native.Mathlib.Omega.{arith}
-use lib.Dec.{ltb, eqb}
+use lib.Dec.{eqb}
 use lib.ListN.{length, length-append}
-use borrow.Author.Tests.{eq-eqb, ne-eqb, lt-ltb, le-ltb}
-use Rattle.contexts.specs.{context}
+use borrow.Author.Tests.{eq-eqb, ne-eqb}
+use Rattle.contexts.specs.{context, placeOf, sizeOf}
+use Rattle.contexts.proofs.Places.{size-most}
 use Rattle.contexts.specs.declared.Context.{Context}
 use Rattle.protocol.specs.declared.Answer.{Answer}
 use Rattle.protocol.specs.declared.Answer.the-variants.{Done, Finished, FinishedContext, Refused}
 use Rattle.protocol.specs.declared.Refusal.the-variants.{NotOpen}
 use Rattle.protocol.specs.Answers.{refusalNumber, noFreshness, oldRead, newRead}
-use Rattle.line_lengths.specs.Lines.{digits, places, decimal, longPlaces, longDecimal, okStart, freshnessEnd, finishEnd, laterValue, joined, contextEnd, noLine, lineOf}
+use Rattle.line_lengths.specs.Lines.{digits, places, decimal, longPlaces, longDecimal, okStart, freshnessEnd, finishEnd, laterValues, joined, contextEnd, noLine, lineOf}
 use Rattle.line_lengths.proofs.Numbers.{decimal-places, decimal-length, long-decimal-places, long-length}
 
 -- no line has more bytes
@@ -48,22 +50,14 @@ pub no-word : (f : ℕ) → f ≢ oldRead → f ≢ newRead → freshnessEnd f �
 unfolding freshnessEnd
 no-word f p q = rw (ne-eqb f oldRead p, ne-eqb f newRead q)
 
--- what holds of a comma with a value, and of nothing, holds of a later value
-by-later : (n i v : ℕ) (P : List ℕ → Type 0) → P (44 ∷ decimal v) → P [] → P (laterValue n i v)
-unfolding laterValue
-by-later n i v P there none = go (ltb i n)
-  where
-    go : (a : Bool) → P (cond a (44 ∷ decimal v) [])
-    go true = there
-    go false = none
-
-pub later-there : (n i v : ℕ) → i < n → laterValue n i v ≡ 44 ∷ decimal v
-unfolding laterValue
-later-there n i v h = rw (lt-ltb i n h)
-
-pub later-none : (n i v : ℕ) → n ≤ i → laterValue n i v ≡ []
-unfolding laterValue
-later-none n i v h = rw (le-ltb i n h)
+-- one more value, as a loop over the places has it
+pub later-more : (v : Context) (i : ℕ) → 1 ≤ i → laterValues v (i - 1) ++ 44 ∷ decimal (placeOf v i) ≡ laterValues v (i + 1 - 1)
+unfolding laterValues
+later-more v zero h = absurd (omega arith)
+later-more v (suc k) h =
+    let before : suc k - 1 ≡ k = omega arith in
+    let next : suc k + 1 - 1 ≡ suc k = omega arith in
+    rw (before, next) refl
 
 digits-line : (k n : ℕ) (l : List ℕ) → isLine (digits k n ++ l) ≡ isLine l
 unfolding digits
@@ -82,8 +76,10 @@ long-line n l = digits-line (longPlaces n) n l
 freshness-line : (f : ℕ) → isLine (freshnessEnd f) ≡ true
 freshness-line f = by-word f (λ l. isLine l ≡ true) refl refl refl
 
-later-line : (n i v : ℕ) (l : List ℕ) → isLine (laterValue n i v ++ l) ≡ isLine l
-later-line n i v l = by-later n i v (λ w. isLine (w ++ l) ≡ isLine l) (number-line v l) refl
+later-line : (v : Context) (k : ℕ) (l : List ℕ) → isLine (laterValues v k ++ l) ≡ isLine l
+unfolding laterValues
+later-line v zero l = refl
+later-line v (suc k) l = rw append-assoc (later-line v k (44 ∷ decimal (placeOf v (suc k)) ++ l) ∙ number-line (placeOf v (suc k)) l)
 
 joined-line : (v : Context) (l : List ℕ) → isLine (joined v ++ l) ≡ isLine l
 unfolding joined
@@ -107,12 +103,12 @@ ok-parts k w m = simp length-append (omega arith)
 pub finish-parts : (o v f : ℕ) → length (finishEnd o v f) ≡ length (decimal o) + 1 + length (decimal v) + 1 + length (freshnessEnd f)
 finish-parts o v f = simp length-append (omega arith)
 
-pub joined-parts : (v : Context) → length (joined v) ≡
-    length (decimal (v .first)) + length (laterValue (v .count) 1 (v .second)) + length (laterValue (v .count) 2 (v .third)) +
-    length (laterValue (v .count) 3 (v .fourth)) + length (laterValue (v .count) 4 (v .fifth)) + length (laterValue (v .count) 5 (v .sixth)) +
-    length (laterValue (v .count) 6 (v .seventh)) + length (laterValue (v .count) 7 (v .eighth))
+pub later-parts : (v : Context) (i : ℕ) → 1 ≤ i → length (laterValues v (i - 1)) + 1 + length (decimal (placeOf v i)) ≡ length (laterValues v (i + 1 - 1))
+later-parts v i h = simp (← later-more v i h, length-append) (omega arith)
+
+pub joined-parts : (v : Context) → length (joined v) ≡ length (decimal (v .first)) + length (laterValues v (sizeOf v - 1))
 unfolding joined
-joined-parts v = simp length-append
+joined-parts v = length-append (decimal (v .first)) (laterValues v (sizeOf v - 1))
 
 pub context-parts : (o : ℕ) (v : Context) → length (contextEnd o v) ≡ length (decimal o) + 1 + length (joined v) + 1 + length (freshnessEnd noFreshness)
 context-parts o v = simp length-append (omega arith)
@@ -155,23 +151,27 @@ finished-context-length k o v w m = length-append (okStart k w m) (contextEnd o 
 pub freshness-length : (f : ℕ) → length (freshnessEnd f) ≤ 4
 freshness-length f = by-word f (λ l. length l ≤ 4) (omega arith) (omega arith) (omega arith)
 
-later-length : (n i v : ℕ) → length (laterValue n i v) ≤ 11
-later-length n i v = by-later n i v (λ l. length l ≤ 11) (omega (arith, decimal-length v)) (omega arith)
+pub later-length : (v : Context) (k : ℕ) → length (laterValues v k) ≤ 11 * k
+unfolding laterValues
+later-length v zero = omega arith
+later-length v (suc k) = simp length-append (omega (arith, later-length v k, decimal-length (placeOf v (suc k))))
 
-joined-length : (v : Context) → length (joined v) ≤ 87
-joined-length v =
-    omega (
-      arith,
-      joined-parts v,
-      decimal-length (v .first),
-      later-length (v .count) 1 (v .second),
-      later-length (v .count) 2 (v .third),
-      later-length (v .count) 3 (v .fourth),
-      later-length (v .count) 4 (v .fifth),
-      later-length (v .count) 5 (v .sixth),
-      later-length (v .count) 6 (v .seventh),
-      later-length (v .count) 7 (v .eighth),
-    )
+-- eight values at most, of ten digits at most, and the commas
+pub joined-length : (v : Context) → length (joined v) ≤ 87
+joined-length v = omega (arith, joined-parts v, decimal-length (v .first), later-length v (sizeOf v - 1), size-most v)
+
+-- fewer values are no longer, so one more has room where all have
+later-within : (v : Context) (k m : ℕ) → k ≤ m → length (laterValues v k) ≤ length (laterValues v m)
+unfolding laterValues
+later-within v k zero h = let e : k ≡ 0 = omega arith in rw e (omega arith)
+later-within v k (suc m) h =
+    elim (ℕ-discrete k (suc m)) [
+      | yes e ↦ rw e (omega arith)
+      | no n ↦ simp length-append (omega (arith, later-within v k m (omega arith)))
+    ]
+
+pub later-room : (v : Context) (i n : ℕ) → 1 ≤ i → i < n → length (laterValues v (i - 1)) + 1 + length (decimal (placeOf v i)) ≤ length (laterValues v (n - 1))
+later-room v i n h k = omega (arith, later-parts v i h, later-within v (i + 1 - 1) (n - 1) (omega arith))
 
 pub refusal-length : (k refusal : ℕ) → length (noLine k refusal) ≤ longest
 unfolding noLine
@@ -222,5 +222,5 @@ new-end = refl
 -- Req 02: the line of a read of three objects
 pub context-line : lineOf 12 (FinishedContext 2 (context 3 9 0 7 0 0 0 0 0)) 1 0 ≡
     49 ∷ 50 ∷ 32 ∷ 111 ∷ 107 ∷ 32 ∷ 49 ∷ 32 ∷ 48 ∷ 32 ∷ 50 ∷ 32 ∷ 57 ∷ 44 ∷ 48 ∷ 44 ∷ 55 ∷ 32 ∷ 45 ∷ 10 ∷ []
-unfolding lineOf joined laterValue freshnessEnd longDecimal longPlaces decimal places digits
+unfolding lineOf joined laterValues placeOf sizeOf freshnessEnd longDecimal longPlaces decimal places digits
 context-line = refl

@@ -1,8 +1,9 @@
 -- Document 01, 'What the run program prints', with document 02's Req 01 and Req 02: the bytes of one line.
 use mathlib.Core.Bool.{cond}
 use mathlib.Core.List.{List, [], _∷_, _++_}
-use Prim.Native.Nat.{ℕ, zero, suc, _+_, _/_, _%_}
+use Prim.Native.Nat.{ℕ, zero, suc, _+_, _-_, _/_, _%_}
 use lib.Dec.{ltb, eqb}
+use Rattle.contexts.specs.{placeOf, sizeOf}
 use Rattle.contexts.specs.declared.Context.{Context}
 use Rattle.protocol.specs.declared.Answer.{Answer}
 use Rattle.protocol.specs.declared.Answer.the-variants.{Done, Finished, FinishedContext, Refused}
@@ -33,11 +34,11 @@ longPlaces n = cond (ltb n 10000000000) (places n) (10 + places (n / 10000000000
 unfoldable pub longDecimal : ℕ → List ℕ
 longDecimal n = digits (longPlaces n) n
 
--- 'record number from 1, then `ok`, packets waiting, counting marks, and operation and value just finished, or `- -`'
+-- 'record number from 1, then `ok`, packets waiting, counting marks .., and operation and value just finished, or `- -`'
 abbrev pub okStart : ℕ → ℕ → ℕ → List ℕ
 okStart k waiting marks = longDecimal k ++ (32 ∷ 111 ∷ 107 ∷ 32 ∷ []) ++ decimal waiting ++ (32 ∷ []) ++ decimal marks ++ (32 ∷ [])
 
--- Req 01: 'ends with a new field: `old` ..., else `new`. Every other `ok` line has `-` there', and the line's end
+-- Req 01: 'ends with a new field: `old` .., else `new`. Every other `ok` line has `-` there', and the line's end
 unfoldable pub freshnessEnd : ℕ → List ℕ
 freshnessEnd f = cond (eqb f oldRead) (111 ∷ 108 ∷ 100 ∷ 10 ∷ []) (cond (eqb f newRead) (110 ∷ 101 ∷ 119 ∷ 10 ∷ []) (45 ∷ 10 ∷ []))
 
@@ -45,14 +46,13 @@ freshnessEnd f = cond (eqb f oldRead) (111 ∷ 108 ∷ 100 ∷ 10 ∷ []) (cond 
 abbrev pub finishEnd : ℕ → ℕ → ℕ → List ℕ
 finishEnd o v f = decimal o ++ (32 ∷ []) ++ decimal v ++ (32 ∷ []) ++ freshnessEnd f
 
--- Req 02: 'The values print joined by commas, in the order given': value i of n, counted from 0, stands behind a comma
-unfoldable pub laterValue : ℕ → ℕ → ℕ → List ℕ
-laterValue n i v = cond (ltb i n) (44 ∷ decimal v) []
+-- Req 02: 'The values print joined by commas, in the order given': the k values after the first, each behind a comma
+unfoldable pub laterValues : Context → ℕ → List ℕ
+laterValues v zero = []
+laterValues v (suc k) = laterValues v k ++ 44 ∷ decimal (placeOf v (suc k))
 
 unfoldable pub joined : Context → List ℕ
-joined v =
-    decimal (v .first) ++ laterValue (v .count) 1 (v .second) ++ laterValue (v .count) 2 (v .third) ++ laterValue (v .count) 3 (v .fourth) ++
-    laterValue (v .count) 4 (v .fifth) ++ laterValue (v .count) 5 (v .sixth) ++ laterValue (v .count) 6 (v .seventh) ++ laterValue (v .count) 7 (v .eighth)
+joined v = decimal (v .first) ++ laterValues v (sizeOf v - 1)
 
 -- the operation just finished, its values, and 'the field of Req 01 is `-`'
 abbrev pub contextEnd : ℕ → Context → List ℕ

@@ -2,7 +2,7 @@
 ghost use mathlib.Core.Path.{_≡_};
 ghost use Prim.Native.Nat.{_≤_};
 ghost use lib.ListN.{length};
-ghost use Rattle.line_lengths.specs.Lines.{places, longPlaces, laterValue, joined, okStart, finishEnd, contextEnd, noLine, lineOf};
+ghost use Rattle.line_lengths.specs.Lines.{places, longPlaces, joined, okStart, finishEnd, contextEnd, noLine, lineOf};
 use contexts::Context;
 use limits::Freshness;
 use limits::RecordNumber;
@@ -83,26 +83,18 @@ pub fn finish_length(operation: u32, value: u32, freshness: Freshness) -> usize
     digits + 4
 }
 
-pub fn later_length(n: u32, i: u32, value: u32) -> usize
-    ensures { λ r. ⌜ (r ≡ length (laterValue n i value)) × (r ≤ 11) ⌝ }
-{
-    if n <= i {
-        return 0;
-    }
-    digits_of(value) + 1
-}
-
+// The first value, and each later one behind a comma.
 pub fn joined_length(v: Context) -> usize
     ensures { λ r. ⌜ (r ≡ length (joined v)) × (r ≤ 87) ⌝ }
 {
-    digits_of(v.first)
-        + later_length(v.count, 1, v.second)
-        + later_length(v.count, 2, v.third)
-        + later_length(v.count, 3, v.fourth)
-        + later_length(v.count, 4, v.fifth)
-        + later_length(v.count, 5, v.sixth)
-        + later_length(v.count, 6, v.seventh)
-        + later_length(v.count, 7, v.eighth)
+    let n = contexts::size(v);
+    let mut digits = digits_of(v.first);
+    let mut i: usize = 1;
+    while i < n {
+        digits += digits_of(contexts::place(v, i)) + 1;
+        i += 1;
+    }
+    digits
 }
 
 pub fn context_length(read: u32, v: Context) -> usize

@@ -12,6 +12,7 @@ use Rattle.history.proofs.Entries.{Entry}
 use Rattle.store.specs.declared.Write.{Write}
 use Rattle.linearizability.proofs.Members.{has, has-true, has-false}
 use Rattle.linearizability.proofs.Visible.{Visible, Distinct}
+use Rattle.linearizability.proofs.Logged.{Logged, logged-once}
 
 -- x is one of the numbers 1 to m
 abbrev pub UpTo : ℕ → ℕ → Type 0
@@ -57,7 +58,7 @@ length-numbered number m l p f =
       λ y i. let r = Memᴰ·of-map number l i in subst (UpTo m) (r .2) (f (r .0) (r .1)),
     ))
 
-module _ {h : History} {es : List Entry} {issued log : List Write} {n : ℕ} (g : Visible h es issued log n) {m : ℕ} (b : (o : ℕ) → Begun h o → UpTo m o) where
+module _ {chain : ℕ → ℕ} {h : History} {es : List Entry} {issued : List Write} {shown : ℕ → List Write} (g : Visible chain h es issued shown) {m : ℕ} (b : (o : ℕ) → Begun h o → UpTo m o) where
   -- stamped writes of distinct operations are at most as many as the operation numbers
   operations-bounded : (ws : List Write) → Pairwise Distinct ws → ((w : Write) → w ∈ ws → w ∈ issued) → length ws ≤ m
   operations-bounded ws p i = length-numbered (λ (w : Write). w .operation) m ws p
@@ -67,6 +68,6 @@ module _ {h : History} {es : List Entry} {issued log : List Write} {n : ℕ} (g 
   pub issued-bounded : length issued ≤ m
   issued-bounded = operations-bounded issued (g .issued-once) (λ w i. i)
 
-  -- and the writes of the log
-  pub log-bounded : length log ≤ m
-  log-bounded = operations-bounded log (g .log-once) (g .log-issued)
+  -- and the writes of a log
+  pub log-bounded : {log : List Write} {d n : ℕ} → Logged chain issued log d n → length log ≤ m
+  log-bounded {log} k = operations-bounded log (logged-once k (g .issued-once)) (k .of-issued)

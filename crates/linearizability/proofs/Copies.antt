@@ -13,7 +13,8 @@ use Rattle.waiting.specs.declared.Packet.{Packet}
 use Rattle.protocol.specs.declared.Message.{Message}
 use Rattle.protocol.specs.declared.Message.the-variants.{ContextRead, DirectContext, NormalContext, ContextReply, Unknown}
 use Rattle.protocol.specs.Messages.{contextMessage, messageOf, isOfContext, inRow}
-use Rattle.linearizability.proofs.Packets.{AnsweredContext, rowNumbers, Fine, Asks, Names}
+use Rattle.protocol.proofs.Effects.{Names}
+use Rattle.linearizability.proofs.Packets.{AnsweredContext, rowNumbers, Direct, Fine, Asks}
 use Rattle.linearizability.proofs.Invariant.{Placed}
 
 -- the messages that differ in the row alone
@@ -47,12 +48,12 @@ family-placed (direct q number c o) s r t p = p
 family-placed (normal q o) s r t p = p
 family-placed (replied o) s r t p = p
 
-pub family-fine : {q : ℕ → Message} → Family q → (h : History) (es : List Entry) (issued : List Write) (top : ℕ) (opens opens' : List ℕ) (r s : ℕ)
-    → rowNumbers opens' s ≡ rowNumbers opens r → Fine h es issued top opens (q r) → Fine h es issued top opens' (q s)
-family-fine (asked o) h es issued top opens opens' r s e f = subst (λ (xs : List ℕ). begun o (reads xs) ∈ h) (sym e) f
-family-fine (direct q number t o) h es issued top opens opens' r s e f = (subst (λ (xs : List ℕ). begun o (reads xs) ∈ h) (sym e) (f .0), f .1)
-family-fine (normal q o) h es issued top opens opens' r s e f = subst (λ (xs : List ℕ). begun o (reads xs) ∈ h) (sym e) f
-family-fine (replied o) h es issued top opens opens' r s e f = subst (AnsweredContext h es o) (sym e) f
+pub family-fine : {q : ℕ → Message} → Family q → (chain : ℕ → ℕ) (h : History) (es : List Entry) (issued : List Write) (shown : ℕ → List Write) (opens opens' : List ℕ) (r s : ℕ)
+    → rowNumbers opens' s ≡ rowNumbers opens r → Fine chain h es issued shown opens (q r) → Fine chain h es issued shown opens' (q s)
+family-fine (asked o) chain h es issued shown opens opens' r s e f = subst (λ (xs : List ℕ). begun o (reads xs) ∈ h) (sym e) f
+family-fine (direct q number t o) chain h es issued shown opens opens' r s e f = (subst (λ (xs : List ℕ). begun o (reads xs) ∈ h) (sym e) (f .0), subst (Direct chain h es shown t o) (sym e) (f .1))
+family-fine (normal q o) chain h es issued shown opens opens' r s e f = subst (λ (xs : List ℕ). begun o (reads xs) ∈ h) (sym e) f
+family-fine (replied o) chain h es issued shown opens opens' r s e f = subst (AnsweredContext h es o) (sym e) f
 
 -- there is no fifth kind
 above : (j k : ℕ) → j ≤ k → (k ≡ j → ⊥) → j + 1 ≤ k

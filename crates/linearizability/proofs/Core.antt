@@ -1,19 +1,22 @@
--- The invariant of the order, the log, the waiting packets and the switch's last-committed stamp together, and every change that a step makes to them.
--- Of the chain there is only how many writes of the log its tail has applied.
+-- The invariant of the order, the visible writes, the waiting packets and the switch's last-committed stamps together, and every change that a step makes to them.
+-- Of the replicas there is only what each chain shows: how a chain or a quorum of replicas holds its log is no part of it.
 use mathlib.Core.Path.{_≡_, refl, sym, ap, _∙_, subst}
-use mathlib.Core.Logic.{inl, inr, _≢_}
-use mathlib.Core.Bool.{true}
-use mathlib.Core.List.{List, [], _∷_, _++_, map, append-assoc}
-use Prim.Native.Nat.{ℕ, zero, suc, _+_, _-_, _%_, _≤_, _<_, max}
+use mathlib.Core.Logic.{_⊎_, inl, inr, _≢_}
+use mathlib.Core.Bool.{true, cond}
+use mathlib.Core.List.{List, [], _∷_, _++_, map, append-assoc, append-nil}
+use Prim.Native.Nat.{ℕ, suc, _+_, _%_, _≤_, _<_}
+use native.Mathlib.Decide.{ℕ-discrete}
 use native.Mathlib.Omega.{arith}
-use lib.ListN.{length, take, drop, getD}
-use lib.Seq.{slice, slice-empty, slice-cons, take-append-le, take-take, split-at}
+use lib.Dec.{eqb}
+use lib.ListN.{length, take, length-append}
+use lib.Seq.{take-all, take-append-le}
+use borrow.Author.Tests.{eq-eqb, ne-eqb}
 use Rattle.history.specs.History.{_∈_, Kind, reads, writes, Event, History, begun, finished, Begun}
 use Rattle.history.proofs.Lists.{here, there, in-left, in-insert, inserted}
 use Rattle.history.proofs.Entries.{Entry, read-entry, New, Unfinished, InOrder}
 use Rattle.history.proofs.Growth.{begun-at}
-use Rattle.history.proofs.Readable.{Readable, placed, readable-now, readable-begin, readable-visible, readable-finish, readable-placed}
-use Rattle.log.proofs.Log.{values, stamps, top, top-take, same-value, below-top, rising-take}
+use Rattle.history.proofs.Readable.{Readable, placed, readable-now, readable-forget, readable-begin, readable-visible, readable-finish, readable-placed}
+use Rattle.log.proofs.Log.{values, stamps, top, Rising, top-append, behind-value, below-top}
 use Rattle.limits.specs as limits
 use Rattle.contexts.specs.{isCount, sizeAt, contextAt}
 use Rattle.contexts.proofs.Rows.{Apart}
@@ -21,8 +24,9 @@ use Rattle.store.specs.declared.Write.{Write}
 use Rattle.protocol.specs.Answers.{noFreshness, newRead}
 use Rattle.protocol.specs.declared.Message.{Message}
 use Rattle.protocol.specs.declared.Message.the-variants.{UnstampedWrite, StampedWrite, Completion, Reply}
-use Rattle.linearizability.proofs.Visible.{entry, shows, Wrote, Visible, visible-wrote, visible-start, visible-begin, visible-finish, visible-reply, visible-stamp, visible-accept, visible-cut, visible-show, hidden-unfinished}
-use Rattle.linearizability.proofs.Packets.{AnsweredContext, Fine, Asks, Names, Others, Packets, packets-start, grows-event, packets-grows, packets-begun, packets-lose, packets-join, packets-add, packets-ask, packets-stamp, packets-rows, rows-apart}
+use Rattle.linearizability.proofs.Visible.{entry, shows, Wrote, Visible, noneShown, OneMore, visible-wrote, visible-start, visible-begin, visible-finish, visible-reply, visible-stamp, visible-show, hidden-unfinished}
+use Rattle.protocol.proofs.Effects.{Names}
+use Rattle.linearizability.proofs.Packets.{AnsweredContext, Together, Direct, Fine, Asks, Others, Packets, packets-start, grows-event, packets-grows, packets-begun, packets-lose, packets-join, packets-add, packets-ask, packets-stamp, packets-rows, rows-apart}
 
 -- two functions that agree on a list
 pub map-same : (f g : ℕ → ℕ) (xs : List ℕ) → ((x : ℕ) → x ∈ xs → f x ≡ g x) → map f xs ≡ map g xs
@@ -33,36 +37,37 @@ map-same f g (x ∷ xs) e = λ j. e x (here refl) j ∷ map-same f g xs (λ y i.
 none-new : noFreshness ≢ newRead
 none-new e = omega (arith, e)
 
--- c is the switch's last-committed stamp, and opens has the rows of the contexts
-pub record Core (h : History) (es : List Entry) (issued log : List Write) (n : ℕ) (messages : List Message) (c : ℕ) (opens : List ℕ) : Type 0 where
-  pub visible : Visible h es issued log n
-  pub packets : Packets h es issued (top 0 (take n log)) opens messages
-  -- it is not above the tail's highest stamp
-  pub low : c ≤ top 0 (take n log)
+-- c has the switch's last-committed stamp of each chain, and opens the rows of the contexts
+pub record Core (chain : ℕ → ℕ) (h : History) (es : List Entry) (issued : List Write) (shown : ℕ → List Write) (messages : List Message) (c : ℕ → ℕ) (opens : List ℕ) : Type 0 where
+  pub visible : Visible chain h es issued shown
+  pub packets : Packets chain h es issued shown opens messages
+  -- it is not above what the chain shows
+  pub low : (x : ℕ) → c (chain x) ≤ top 0 (shown (chain x))
 
 -- nothing happened yet
-pub core-start : {opens : List ℕ} → Core [] [] [] [] 0 [] 0 opens
-core-start = record { visible = visible-start; packets = packets-start; low = omega arith }
+pub core-start : {chain : ℕ → ℕ} {opens : List ℕ} → Core chain [] [] [] noneShown [] (λ d. 0) opens
+core-start {chain} = record { visible = visible-start chain; packets = packets-start; low = λ x. omega arith }
 
-module _ {h : History} {es : List Entry} {issued log : List Write} {n : ℕ} {messages : List Message} {c : ℕ} {opens : List ℕ} (k : Core h es issued log n messages c opens) where
+module _ {chain : ℕ → ℕ} {h : History} {es : List Entry} {issued : List Write} {shown : ℕ → List Write} {messages : List Message} {c : ℕ → ℕ} {opens : List ℕ}
+    (k : Core chain h es issued shown messages c opens) where
   -- ---- the history grows
 
   -- an event after which the order has the same entries and perhaps others
-  core-event : {e : Event} {es' : List Entry} → Visible (e ∷ h) es' issued log n → ((f : Entry) → f ∈ es → f ∈ es')
-      → ((o : ℕ) (xs vs : List ℕ) (was : List Entry) → Begun h o → Readable h es o xs vs was → Readable (e ∷ h) es' o xs vs was) → Core (e ∷ h) es' issued log n messages c opens
+  core-event : {e : Event} {es' : List Entry} → Visible chain (e ∷ h) es' issued shown → ((f : Entry) → f ∈ es → f ∈ es')
+      → ((o : ℕ) (xs vs : List ℕ) (was : List Entry) → Begun h o → Readable h es o xs vs was → Readable (e ∷ h) es' o xs vs was) → Core chain (e ∷ h) es' issued shown messages c opens
   core-event v old r = record { visible = v; packets = packets-grows (grows-event old r) (k .packets); low = k .low }
 
   -- an operation begins
-  pub core-begin : (o : ℕ) (a : Kind) → New h o → Core (begun o a ∷ h) es issued log n messages c opens
+  pub core-begin : (o : ℕ) (a : Kind) → New h o → Core chain (begun o a ∷ h) es issued shown messages c opens
   core-begin o a w = core-event (visible-begin (k .visible) o a w) (λ f i. i) (λ p xs vs was b r. readable-begin r w b)
 
   -- an operation of the order finishes
-  pub core-finish : {o : ℕ} {vs : List ℕ} → InOrder es o vs → Core (finished o vs ∷ h) es issued log n messages c opens
+  pub core-finish : {o : ℕ} {vs : List ℕ} → InOrder es o vs → Core chain (finished o vs ∷ h) es issued shown messages c opens
   core-finish i = core-event (visible-finish (k .visible) i) (λ f j. j) (λ p xs us was b r. readable-finish r)
 
   -- an answered read finishes, and takes its place in the order
   pub core-reply : {o : ℕ} {xs vs : List ℕ} {was : List Entry} → begun o (reads xs) ∈ h → Unfinished h o → (r : Readable h es o xs vs was)
-      → Core (finished o vs ∷ h) (placed r) issued log n messages c opens
+      → Core chain (finished o vs ∷ h) (placed r) issued shown messages c opens
   core-reply {o} {xs} {vs} b w r =
       core-event (visible-reply (k .visible) b w r)
       (λ f i. in-insert (r .front) (read-entry o xs vs) (r .back) (subst (λ (l : List Entry). f ∈ l) (r .cut) i))
@@ -71,101 +76,133 @@ module _ {h : History} {es : List Entry} {issued log : List Write} {n : ℕ} {me
   -- ---- packets join the list
 
   -- one that is no unstamped write, and names no row
-  pub core-add : (m : Message) → Fine h es issued (top 0 (take n log)) opens m → ((o : ℕ) → Asks m o → ⊥) → ((r : ℕ) → Names m r → ⊥)
-      → Core h es issued log n (messages ++ m ∷ []) c opens
+  pub core-add : (m : Message) → Fine chain h es issued shown opens m → ((o : ℕ) → Asks m o → ⊥) → ((r : ℕ) → Names m r → ⊥)
+      → Core chain h es issued shown (messages ++ m ∷ []) c opens
   core-add m f a b = record { visible = k .visible; packets = packets-add messages m f a b (k .packets); low = k .low }
 
   -- one that names a row, which holds 2 to 8 numbers, and which no other names
-  pub core-join : (m : Message) → Fine h es issued (top 0 (take n log)) opens m → ((o : ℕ) → Asks m o → ⊥) → ((q : Message) → q ∈ messages → Others q m)
-      → ((r : ℕ) → Names m r → isCount (sizeAt opens r) ≡ true) → Core h es issued log n (messages ++ m ∷ []) c opens
+  pub core-join : (m : Message) → Fine chain h es issued shown opens m → ((o : ℕ) → Asks m o → ⊥) → ((q : Message) → q ∈ messages → Others q m)
+      → ((r : ℕ) → Names m r → isCount (sizeAt opens r) ≡ true) → Core chain h es issued shown (messages ++ m ∷ []) c opens
   core-join m f a rows held = record { visible = k .visible; packets = packets-join messages m f (λ o b. absurd (a o b)) rows held (k .packets); low = k .low }
 
   -- the rows that are named hold what they held
   pub core-rows : {opens' : List ℕ} → ((q : Message) → q ∈ messages → (r : ℕ) → Names q r → contextAt opens' r ≡ contextAt opens r)
-      → Core h es issued log n messages c opens'
+      → Core chain h es issued shown messages c opens'
   core-rows same = record { visible = k .visible; packets = packets-rows same (k .packets); low = k .low }
 
-  -- a read that carries the stamp d is answered with what the tail has, and with `new` only if the order has a write from d on
-  core-answer : (o x v d f : ℕ) → begun o (reads (x ∷ [])) ∈ h → v ≡ values (take n log) x → (f ≡ newRead → Wrote x d es)
-      → Core h es issued log n (messages ++ Reply o v d f ∷ []) c opens
-  core-answer o x v d f b e s =
-      core-add (Reply o v d f) (inr (x, b, es, readable-now es (ap (λ (z : ℕ). z ∷ []) (e ∙ sym (k .visible .store x))), s)) (λ p q. q) (λ p q. q)
+  -- ---- reads
 
-  -- an answer from a replica that has applied the first m writes, where x's stamp is not above the stamp d that the read carries
-  pub core-direct : (o x m d : ℕ) → begun o (reads (x ∷ [])) ∈ h → d ≤ top 0 (take n log) → n ≤ m → stamps (take m log) x ≤ d
-      → Core h es issued log n (messages ++ Reply o (values (take m log) x) 0 noFreshness ∷ []) c opens
-  core-direct o x m d b l g s = core-answer o x (values (take m log) x) 0 noFreshness b (same-value n m d x log (k .visible .rising) g l s) (λ e. absurd (none-new e))
+  -- the values that the visible writes of chain d leave of the objects of that chain are the order's
+  order-values : (d : ℕ) (xs : List ℕ) (f : ℕ → ℕ) → Together chain d xs → ((x : ℕ) → x ∈ xs → f x ≡ values (shown d) x) → (o : ℕ) → Readable h es o xs (map f xs) es
+  order-values d xs f in-one e o =
+      readable-now es (map-same _ _ xs (λ x i. e x i ∙ ap (λ (j : ℕ). values (shown j) x) (sym (in-one x i)) ∙ sym (k .visible .store x)))
 
-  -- an answer from the tail, which is `new` only if x's stamp there is not below the one carried
-  pub core-normal : (o x d f : ℕ) → begun o (reads (x ∷ [])) ∈ h → (f ≡ newRead → (0 < d) × (d ≤ stamps (take n log) x))
-      → Core h es issued log n (messages ++ Reply o (values (take n log) x) d f ∷ []) c opens
-  core-normal o x d f b s = core-answer o x (values (take n log) x) d f b refl (λ e. visible-wrote (k .visible) x d (s e .0) (s e .1))
+  -- a read that carries the stamp s is answered with what its chain shows, and with `new` only if the order has a write from s on
+  pub core-answer : (o x v s f : ℕ) → begun o (reads (x ∷ [])) ∈ h → v ≡ values (shown (chain x)) x → (f ≡ newRead → Wrote x s es)
+      → Core chain h es issued shown (messages ++ Reply o v s f ∷ []) c opens
+  core-answer o x v s f b e w =
+      core-add (Reply o v s f) (inr (x, b, es, readable-now es (ap (λ (z : ℕ). z ∷ []) (e ∙ sym (k .visible .store x))), w)) (λ p q. q) (λ p q. q)
 
-  -- a read of a whole context can be put into the order with what the tail has
-  context-now : (o : ℕ) (xs vs : List ℕ) → begun o (reads xs) ∈ h → vs ≡ map (values (take n log)) xs → AnsweredContext h es o vs
-  context-now o xs vs b e = (xs, b, es, readable-now es (e ∙ map-same _ _ xs (λ x i. sym (k .visible .store x))))
+  -- so is a direct read
+  pub core-direct : (o x v : ℕ) → begun o (reads (x ∷ [])) ∈ h → v ≡ values (shown (chain x)) x → Core chain h es issued shown (messages ++ Reply o v 0 noFreshness ∷ []) c opens
+  core-direct o x v b e = core-answer o x v 0 noFreshness b e (λ n. absurd (none-new n))
 
-  pub context-normal : (o : ℕ) (xs : List ℕ) → begun o (reads xs) ∈ h → AnsweredContext h es o (map (values (take n log)) xs)
-  context-normal o xs b = context-now o xs (map (values (take n log)) xs) b refl
+  -- and a normal read, which is `new` only if x's stamp is not below the one carried
+  pub core-normal : (o x s f : ℕ) → begun o (reads (x ∷ [])) ∈ h → (f ≡ newRead → (0 < s) × (s ≤ stamps (shown (chain x)) x))
+      → Core chain h es issued shown (messages ++ Reply o (values (shown (chain x)) x) s f ∷ []) c opens
+  core-normal o x s f b t = core-answer o x (values (shown (chain x)) x) s f b refl (λ e. visible-wrote (k .visible) x s (t e .0) (t e .1))
 
-  -- and with what a replica has that has applied the first m writes, where no object's stamp is above the stamp d that the read carries
-  pub context-direct : (o : ℕ) (xs : List ℕ) (m d : ℕ) → begun o (reads xs) ∈ h → d ≤ top 0 (take n log) → n ≤ m
-      → ((x : ℕ) → x ∈ xs → stamps (take m log) x ≤ d) → AnsweredContext h es o (map (values (take m log)) xs)
-  context-direct o xs m d b l g s =
-      context-now o xs (map (values (take m log)) xs) b (map-same _ _ xs (λ x i. same-value n m d x log (k .visible .rising) g l (s x i)))
+  -- a read of a whole context can be put into the order with what its chain shows
+  pub context-now : (o d : ℕ) (xs : List ℕ) (f : ℕ → ℕ) → begun o (reads xs) ∈ h → Together chain d xs → ((x : ℕ) → x ∈ xs → f x ≡ values (shown d) x)
+      → AnsweredContext h es o (map f xs)
+  context-now o d xs f b in-one e = (xs, b, es, order-values d xs f in-one e o)
 
-  -- ---- the log
+  -- the switch lets a direct read pass: no write to its objects was ever stamped above the stamp s that the read carries
+  pub core-passes : (o d s : ℕ) (xs : List ℕ) → Together chain d xs → s ≤ top 0 (shown d) → ((w : Write) → w ∈ issued → w .object ∈ xs → w .stamp ≤ s)
+      → Direct chain h es shown s o xs
+  core-passes o d s xs in-one low none = (
+    d,
+    in-one,
+    low,
+    λ j l reach. readable-forget (order-values d xs (values (take j (shown d))) in-one (λ x i.
+        behind-value j s x (shown d) (k .visible .rising d) l reach
+        (λ w m e. none w (k .visible .of-issued d w m) (subst (λ (y : ℕ). y ∈ xs) (sym e) i))) o),
+  )
 
-  -- another log, of which the tail has applied the same writes
-  core-log : {log' : List Write} → take n log' ≡ take n log → Visible h es issued log' n → Core h es issued log' n messages c opens
-  core-log same v = record { visible = v; packets = rw same (k .packets); low = rw same (k .low) }
+  -- a replica that has executed the first j of the visible writes, up to the stamp s or beyond, answers the direct read
+  pub core-behind : (o x s j : ℕ) → begun o (reads (x ∷ [])) ∈ h → (f : Direct chain h es shown s o (x ∷ [])) → j ≤ length (shown (chain x)) → s ≤ top 0 (take j (shown (chain x)))
+      → Core chain h es issued shown (messages ++ Reply o (values (take j (shown (chain x))) x) 0 noFreshness ∷ []) c opens
+  core-behind o x s j b (d, in-one, low, behind) l reach =
+      let e : chain x ≡ d = in-one x (here refl) in
+      core-add (Reply o (values (take j (shown (chain x))) x) 0 noFreshness)
+      (inr (x, b, [], rw e (behind j (rw e at l) (rw e at reach)), λ n. absurd (none-new n))) (λ p q. q) (λ p q. q)
 
-  -- the head applies a stamped write
-  pub core-accept : (w : Write) → w ∈ issued → top 0 log < w .stamp → Core h es issued (log ++ w ∷ []) n messages c opens
-  core-accept w m r = core-log (take-append-le n log (w ∷ []) (k .visible .fits)) (visible-accept (k .visible) w m r)
+  -- ---- the last-committed stamps
 
-  -- the head is removed, and with it what only it has applied
-  pub core-cut : (m : ℕ) → n ≤ m → Core h es issued (take m log) n messages c opens
-  core-cut m g = core-log (take-take n m log g) (visible-cut (k .visible) m g)
+  -- a completion, or a new switch
+  pub core-commit : (c' : ℕ → ℕ) → ((x : ℕ) → c' (chain x) ≤ top 0 (shown (chain x))) → Core chain h es issued shown messages c' opens
+  core-commit c' l = record { visible = k .visible; packets = k .packets; low = l }
 
-  -- the tail has applied one write more; d is any write
-  pub core-show : (d : Write) → n < length log → Core h (es ++ entry (getD log n d) ∷ []) issued log (suc n) messages c opens
-  core-show d l =
-      let w : Write = getD log n d in
-      let up : top 0 (take n log) ≤ top 0 (take (suc n) log) = top-take n (suc n) log (k .visible .rising) (omega arith) in
-      record {
-        visible = visible-show (k .visible) d l;
-        packets = packets-grows (record {
-          events = λ e i. i;
-          entries = λ e i. in-left (entry w ∷ []) i;
-          issues = λ u i. i;
-          tops = up;
-          reading = λ o xs vs was b r. readable-visible r (entry w) (hidden-unfinished (k .visible) w (drop (suc n) log) (split-at log n d l));
-        }) (k .packets);
-        low = omega (arith, k .low, up);
-      }
+  -- ---- the visible writes
 
-  -- ---- the switch's last-committed stamp
+  -- chain d shows one write more
+  pub core-show : (d : ℕ) (w : Write) {shown' : ℕ → List Write} → OneMore shown shown' d w → w ∈ issued → chain (w .object) ≡ d → top 0 (shown d) < w .stamp
+      → Core chain h (es ++ entry w ∷ []) issued shown' messages c opens
+  core-show d w {shown'} m known own above = record {
+    visible = v;
+    packets = packets-grows (record {
+      events = λ e i. i;
+      entries = λ e i. in-left (entry w ∷ []) i;
+      issues = λ u i. i;
+      tops = up;
+      reading = λ o xs vs was b r. readable-visible r (entry w) (hidden-unfinished (k .visible) d w known own above);
+      fronts = fronts;
+    }) (k .packets);
+    low = λ x. omega (arith, k .low x, up (chain x));
+  }
+    where
+      v : Visible chain h (es ++ entry w ∷ []) issued shown'
+      v = visible-show (k .visible) d w known own above m
 
-  -- a completion
-  pub core-commit : (s : ℕ) → s ≤ top 0 (take n log) → Core h es issued log n messages (max c s) opens
-  core-commit s l = record { visible = k .visible; packets = k .packets; low = omega (arith, k .low, l) }
+      up : (b : ℕ) → top 0 (shown b) ≤ top 0 (shown' b)
+      up b = elim (ℕ-discrete b d) [
+        | yes e ↦ rw (e, m .grown, top-append) (omega (arith, above))
+        | no n ↦ rw (m .same b n) (omega arith)
+      ]
 
-  -- a new switch
-  pub core-reset : Core h es issued log n messages 0 opens
-  core-reset = record { visible = k .visible; packets = k .packets; low = omega arith }
+      -- a front part of what a chain shows is one of those before, or all that chain d shows now
+      fronts : (b j : ℕ) → j ≤ length (shown' b) → ((j ≤ length (shown b)) × (take j (shown' b) ≡ take j (shown b)))
+          ⊎ ((o : ℕ) (xs : List ℕ) → Together chain b xs → Readable h (es ++ entry w ∷ []) o xs (map (values (take j (shown' b))) xs) [])
+      fronts b j l = elim (ℕ-discrete b d) [
+        | yes e ↦ own-front e
+        | no n ↦ inl (rw (m .same b n) at l, ap (take j) (m .same b n))
+      ]
+        where
+          own-front : b ≡ d → ((j ≤ length (shown b)) × (take j (shown' b) ≡ take j (shown b)))
+              ⊎ ((o : ℕ) (xs : List ℕ) → Together chain b xs → Readable h (es ++ entry w ∷ []) o xs (map (values (take j (shown' b))) xs) [])
+          own-front e =
+              let grown : shown' b ≡ shown b ++ w ∷ [] = ap shown' e ∙ m .grown ∙ ap (λ (a : ℕ). shown a ++ w ∷ []) (sym e) in
+              elim (ℕ-discrete j (suc (length (shown b)))) [
+                | yes all ↦ inr (λ o xs in-one.
+                    let whole : take j (shown' b) ≡ shown' b = take-all j (shown' b) (omega (arith, all, ap length grown, length-append (shown b) (w ∷ []))) in
+                    readable-forget (readable-now (es ++ entry w ∷ []) (map-same _ _ xs (λ x i.
+                    ap (λ (t : List Write). values t x) whole ∙ ap (λ (a : ℕ). values (shown' a) x) (sym (in-one x i)) ∙ sym (v .store x)))))
+                | no less ↦
+                    let short : j ≤ length (shown b) = omega (arith, l, less, ap length grown, length-append (shown b) (w ∷ [])) in
+                    inl (short, ap (take j) grown ∙ take-append-le j (shown b) (w ∷ []) short)
+              ]
 
 -- ---- changes of a message of the list
 
 -- a packet is lost or delivered
-pub core-lose : {h : History} {es : List Entry} {issued log : List Write} {n c : ℕ} {opens : List ℕ} (a : List Message) (m : Message) (b : List Message)
-    → Core h es issued log n (a ++ m ∷ b) c opens → Core h es issued log n (a ++ b) c opens
+pub core-lose : {chain : ℕ → ℕ} {h : History} {es : List Entry} {issued : List Write} {shown : ℕ → List Write} {c : ℕ → ℕ} {opens : List ℕ} (a : List Message) (m : Message) (b : List Message)
+    → Core chain h es issued shown (a ++ m ∷ b) c opens → Core chain h es issued shown (a ++ b) c opens
 core-lose a m b k = record { visible = k .visible; packets = packets-lose a m b (k .packets); low = k .low }
 
 -- the switch stamps a write, and sends it to replica r
-pub core-stamp : {h : History} {es : List Entry} {issued log : List Write} {n c : ℕ} {opens : List ℕ} (a b : List Message) (w : Write) (r : ℕ)
-    → Core h es issued log n (a ++ UnstampedWrite (w .operation) (w .object) (w .value) ∷ b) c opens
-    → Core h es (issued ++ w ∷ []) log n (a ++ b ++ StampedWrite r w ∷ []) c opens
+pub core-stamp : {chain : ℕ → ℕ} {h : History} {es : List Entry} {issued : List Write} {shown : ℕ → List Write} {c : ℕ → ℕ} {opens : List ℕ} (a b : List Message) (w : Write) (r : ℕ)
+    → Core chain h es issued shown (a ++ UnstampedWrite (w .operation) (w .object) (w .value) ∷ b) c opens
+    → Core chain h es (issued ++ w ∷ []) shown (a ++ b ++ StampedWrite r w ∷ []) c opens
 core-stamp a b w r k =
     let asked : Message = UnstampedWrite (w .operation) (w .object) (w .value) in
     let i = inserted a asked b in
@@ -175,16 +212,16 @@ core-stamp a b w r k =
       low = k .low;
     }
 
-module _ {h : History} {es : List Entry} {issued log : List Write} {n c : ℕ} {opens : List ℕ} (a : List Message) (m : Message) (b : List Message)
-    (k : Core h es issued log n (a ++ m ∷ b) c opens) (r : ℕ) (names : Names m r) {opens' : List ℕ}
+module _ {chain : ℕ → ℕ} {h : History} {es : List Entry} {issued : List Write} {shown : ℕ → List Write} {c : ℕ → ℕ} {opens : List ℕ} (a : List Message) (m : Message) (b : List Message)
+    (k : Core chain h es issued shown (a ++ m ∷ b) c opens) (r : ℕ) (names : Names m r) {opens' : List ℕ}
     (same : (s : ℕ) → Apart r s → contextAt opens' s ≡ contextAt opens s) where
   -- a message that names row r leaves the list, and only that row may change
-  pub core-leave : Core h es issued log n (a ++ b) c opens'
+  pub core-leave : Core chain h es issued shown (a ++ b) c opens'
   core-leave = core-rows (core-lose a m b k) (λ q i s j. same s (rows-apart a m b (k .packets) r names q i s j))
 
   -- another message that names that row comes of it
-  pub core-turn : (q : Message) → Fine h es issued (top 0 (take n log)) opens' q → ((o : ℕ) → Asks q o → ⊥) → ((s : ℕ) → Names q s → s ≡ r) → isCount (sizeAt opens' r) ≡ true
-      → Core h es issued log n ((a ++ b) ++ q ∷ []) c opens'
+  pub core-turn : (q : Message) → Fine chain h es issued shown opens' q → ((o : ℕ) → Asks q o → ⊥) → ((s : ℕ) → Names q s → s ≡ r) → isCount (sizeAt opens' r) ≡ true
+      → Core chain h es issued shown ((a ++ b) ++ q ∷ []) c opens'
   core-turn q f no-ask only held =
       core-join core-leave q f no-ask
       (λ p i s t j l. let e = only t l in λ d. rows-apart a m b (k .packets) r names p i s j (ap (λ (z : ℕ). z % limits.contexts) (sym e) ∙ sym d))
@@ -192,38 +229,49 @@ module _ {h : History} {es : List Entry} {issued log : List Write} {n c : ℕ} {
 
 -- ---- changes made of several
 
--- what `getD` gives past the end
-no-write : Write
-no-write = record { operation = 0; object = 0; value = 0; stamp = 0 }
+-- what chain d shows is replaced
+abbrev replaced : (ℕ → List Write) → ℕ → List Write → ℕ → List Write
+replaced shown d l e = cond (eqb e d) l (shown e)
 
--- the tail has applied j writes more, and m in all
-reveal-by : {h : History} {issued log : List Write} {messages : List Message} {c : ℕ} {opens : List ℕ} (j m n : ℕ) (es : List Entry) → n + j ≡ m → m ≤ length log
-    → Core h es issued log n messages c opens → Core h (shows es (slice n m log)) issued log m messages c opens
-reveal-by {h} {issued} {log} {messages} {c} {opens} zero m n es e l k =
-    let same : n ≡ m = omega (arith, e) in
-    subst (λ (i : ℕ). Core h (shows es (slice n i log)) issued log i messages c opens) same
-    (subst (λ (ws : List Write). Core h (shows es ws) issued log n messages c opens) (sym (slice-empty n log)) k)
-reveal-by {h} {issued} {log} {messages} {c} {opens} (suc j) m n es e l k =
-    subst (λ (ws : List Write). Core h (shows es ws) issued log m messages c opens) (sym (slice-cons n m log no-write (omega (arith, e)) l))
-    (reveal-by j m (suc n) (es ++ entry (getD log n no-write) ∷ []) (omega arith) l (core-show k no-write (omega (arith, e))))
+replaced-same : (shown : ℕ → List Write) (d : ℕ) (l : List Write) → replaced shown d l d ≡ l
+replaced-same shown d l = rw (eq-eqb d d refl)
 
-module _ {h : History} {es : List Entry} {issued log : List Write} {n : ℕ} {messages : List Message} {c : ℕ} {opens : List ℕ} (k : Core h es issued log n messages c opens) where
-  -- the tail has applied m writes
-  pub core-reveal : (m : ℕ) → n ≤ m → m ≤ length log → Core h (shows es (slice n m log)) issued log m messages c opens
-  core-reveal m g l = reveal-by (m - n) m n es (omega arith) l k
+replaced-other : (shown : ℕ → List Write) (d : ℕ) (l : List Write) (e : ℕ) → (e ≡ d → ⊥) → replaced shown d l e ≡ shown e
+replaced-other shown d l e n = rw (ne-eqb e d n)
 
-  -- the tail sends a reply and a completion for a write that it has applied
-  pub core-sent : (w : Write) → w ∈ take n log → entry w ∈ es
-      → Core h es issued log n (messages ++ Reply (w .operation) (w .value) 0 noFreshness ∷ Completion (w .object) (w .stamp) ∷ []) c opens
-  core-sent w m i =
+-- chain d shows the writes ws more
+pub core-reveal : {chain : ℕ → ℕ} {h : History} {issued : List Write} {messages : List Message} {c : ℕ → ℕ} {opens : List ℕ} (ws : List Write) (es : List Entry) (shown shown' : ℕ → List Write) (d : ℕ)
+    → shown' d ≡ shown d ++ ws → ((e : ℕ) → (e ≡ d → ⊥) → shown' e ≡ shown e) → Rising (top 0 (shown d)) ws
+    → ((w : Write) → w ∈ ws → w ∈ issued) → ((w : Write) → w ∈ ws → chain (w .object) ≡ d)
+    → Core chain h es issued shown messages c opens → Core chain h (shows es ws) issued shown' messages c opens
+core-reveal {chain} {h} {issued} {messages} {c} {opens} [] es shown shown' d grown same up known own k =
+    subst (λ (f : ℕ → List Write). Core chain h es issued f messages c opens) (λ j e. agree e j) k
+  where
+    agree : (e : ℕ) → shown e ≡ shown' e
+    agree e = elim (ℕ-discrete e d) [ yes q ↦ rw q (sym (grown ∙ append-nil (shown d))) | no n ↦ sym (same e n) ]
+core-reveal {chain} {h} {issued} {messages} {c} {opens} (w ∷ ws) es shown shown' d grown same up known own k =
+    let next : ℕ → List Write = replaced shown d (shown d ++ w ∷ []) in
+    let one : next d ≡ shown d ++ w ∷ [] = replaced-same shown d (shown d ++ w ∷ []) in
+    core-reveal ws (es ++ entry w ∷ []) next shown' d
+    (grown ∙ sym (ap (λ (l : List Write). l ++ ws) one ∙ append-assoc (shown d) (w ∷ []) ws))
+    (λ e n. same e n ∙ sym (replaced-other shown d (shown d ++ w ∷ []) e n))
+    (rw (one, top-append) (up .1)) (λ u i. known u (there i)) (λ u i. own u (there i))
+    (core-show k d w (record { grown = one; same = replaced-other shown d (shown d ++ w ∷ []) }) (known w (here refl)) (own w (here refl)) (up .0))
+
+module _ {chain : ℕ → ℕ} {h : History} {es : List Entry} {issued : List Write} {shown : ℕ → List Write} {messages : List Message} {c : ℕ → ℕ} {opens : List ℕ}
+    (k : Core chain h es issued shown messages c opens) where
+  -- a reply and a completion are sent for a visible write
+  pub core-sent : (w : Write) → w ∈ shown (chain (w .object))
+      → Core chain h es issued shown (messages ++ Reply (w .operation) (w .value) 0 noFreshness ∷ Completion (w .object) (w .stamp) ∷ []) c opens
+  core-sent w m =
       let reply : Message = Reply (w .operation) (w .value) 0 noFreshness in
       let completion : Message = Completion (w .object) (w .stamp) in
-      let low = below-top 0 (take n log) w (rising-take 0 n log (k .visible .rising)) m in
-      subst (λ (l : List Message). Core h es issued log n l c opens) (append-assoc messages (reply ∷ []) (completion ∷ []))
-      (core-add (core-add k reply (inl ((entry w, i, refl, refl), none-new)) (λ p q. q) (λ p q. q)) completion low (λ p q. q) (λ p q. q))
+      let low = below-top 0 (shown (chain (w .object))) w (k .visible .rising (chain (w .object))) m in
+      subst (λ (l : List Message). Core chain h es issued shown l c opens) (append-assoc messages (reply ∷ []) (completion ∷ []))
+      (core-add (core-add k reply (inl ((entry w, k .visible .ordered (chain (w .object)) w m, refl, refl), none-new)) (λ p q. q) (λ p q. q)) completion low (λ p q. q) (λ p q. q))
 
   -- a write begins
-  pub core-ask : (o x v : ℕ) → New h o → Core (begun o (writes x v) ∷ h) es issued log n (messages ++ UnstampedWrite o x v ∷ []) c opens
+  pub core-ask : (o x v : ℕ) → New h o → Core chain (begun o (writes x v) ∷ h) es issued shown (messages ++ UnstampedWrite o x v ∷ []) c opens
   core-ask o x v w =
       let begins = core-begin k o (writes x v) w in
       record {

@@ -2,25 +2,27 @@
 -- (Visible, `entry` and `shows`; Invariant, `madeVisible`).
 use mathlib.Core.Path.{_≡_, refl, sym, ap, _∙_, subst}
 use mathlib.Core.Logic.{inl, inr}
-use mathlib.Core.Bool.{true}
+use mathlib.Core.Bool.{true, false}
 use mathlib.Core.List.{List, [], _∷_, _++_}
-use Prim.Native.Nat.{ℕ, _≤_}
+use Prim.Native.Nat.{ℕ}
 use lib.ListN.{take}
+use Rattle.lists.proofs.Tests.{by-test}
 use Rattle.history.specs.History.{_∈_, reads, History, begun}
 use Rattle.history.specs.Linearizability.{Ahead}
 use Rattle.history.proofs.Lists.{here, ahead-first, ahead-append, ahead-front, ahead-map}
-use Rattle.history.proofs.Tests.{by-test}
 use Rattle.history.proofs.Entries.{Entry, read-entry, empty}
 use Rattle.history.proofs.Place.{ahead-place}
 use Rattle.history.proofs.Claim.{numbers}
 use Rattle.contexts.specs.{numbersOf}
 use Rattle.store.specs.declared.Write.{Write}
-use Rattle.store.specs.{appliedBy, stampAt}
-use Rattle.chain.specs.{tailOf, isTail, tableOf}
+use Rattle.store.specs.{stampAt}
+use Rattle.chain.specs.{isTail, tableOf}
 use Rattle.chain.proofs.Numbers.{tail-table}
 use Rattle.waiting.specs.declared.Packet.{Packet}
 use Rattle.waiting.specs.Waiting.{lookAt}
 use Rattle.protocol.specs.Answers.{oldRead, newRead}
+use Rattle.protocol.specs.declared.Setup.{Setup}
+use Rattle.protocol.specs.Starts.{startRefused}
 use Rattle.protocol.specs.declared.Answer.{Answer}
 use Rattle.protocol.specs.declared.Answer.the-variants.{Done, Finished, FinishedContext, Refused}
 use Rattle.protocol.specs.declared.Message.{Message}
@@ -40,7 +42,8 @@ use Rattle.linearizability.proofs.Visible.{entry, shows, WritesFrom, Wr
 use Rattle.linearizability.proofs.Packets.{Answered}
 use Rattle.linearizability.proofs.Order.{objectsOf, finishOrder, finish-read}
 use Rattle.linearizability.proofs.Waits.{messages, Stands, stands-in, at-position}
-use Rattle.linearizability.proofs.Invariant.{Good, finishing, madeVisible, orderNext, order-stays}
+use Rattle.replicas.specs.Visible.{visibleCount, madeVisible}
+use Rattle.linearizability.proofs.Invariant.{chain-held, Good, finishing, orderNext, order-stays}
 use Rattle.linearizability.proofs.OneOrder.{orderFrom}
 use Rattle.linearizability.proofs.Limits.{reached, machineOf, good-run}
 
@@ -53,7 +56,7 @@ module _ (a b : Entry) where
 
   ahead-finish : (h : History) (o : ℕ) (vs : List ℕ) (es : List Entry) → Ahead a b es → Ahead a b (finishOrder h o vs es)
   unfolding finishOrder
-  ahead-finish h o vs es p = by-test (Ahead a b) (has o (numbers es)) _ _ (λ e. p) (λ e. ahead-place _ (read-entry o (objectsOf o h) vs) a b empty es p)
+  ahead-finish h o vs es p = by-test (Ahead a b) (has o (numbers es)) (λ e. p) (λ e. ahead-place _ (read-entry o (objectsOf o h) vs) a b empty es p)
 
   ahead-finishing : (answer : Answer) (h : History) (es : List Entry) → Ahead a b es → Ahead a b (finishing answer h es)
   ahead-finishing Done h es p = p
@@ -65,7 +68,7 @@ module _ (a b : Entry) where
   ahead-from m h es [] p = p
   ahead-from m h es (x ∷ xs) p =
       ahead-from (after m x) (noted x (answerTo m x) h) (orderNext m (after m x) (answerTo m x) h es) xs
-      (ahead-finishing (answerTo m x) h (shows es (madeVisible m (after m x))) (ahead-shows es (madeVisible m (after m x)) p))
+      (ahead-finishing (answerTo m x) h (shows es (madeVisible (m .store) (after m x .store))) (ahead-shows es (madeVisible (m .store) (after m x .store)) p))
 
 -- the order of a run in two parts
 order-append : (m : Machine) (h : History) (es : List Entry) (xs ys : List Step)
@@ -95,7 +98,7 @@ module _ {m : Machine} {h : History} {es : List Entry} (g : Good m h es) (at cho
   next = orderNext m (after m (Deliver at choice)) (answerTo m (Deliver at choice)) h es
 
   next-is : next ≡ finishOrder h o (v ∷ []) es
-  next-is = rw (e, order-stays m (after m (Deliver at choice)) es (ap (λ (s : List ℕ). appliedBy s (tailOf s)) (by .stays)))
+  next-is = rw (e, order-stays (m .store) (after m (Deliver at choice) .store) es (ap visibleCount (by .stays)))
 
   -- the write was in the order when the read was answered, and the read is put behind all of that
   new-next : (x : ℕ) × (begun o (reads (x ∷ [])) ∈ h) × (w : Entry) × WritesFrom x (by .carried) w × Ahead w (read-entry o (x ∷ []) (v ∷ [])) next
@@ -111,32 +114,32 @@ module _ {m : Machine} {h : History} {es : List Entry} (g : Good m h es) (at cho
 
 -- ---- every run
 
--- FOR EVERY NUMBER OF REPLICAS FROM 1 TO 8, EVERY LENT ROW OF PLACES AND EVERY LIST OF STEPS, refused ones included
-module _ (n : ℕ) (low : 1 ≤ n) (high : n ≤ 8) (row : List Packet) (xs : List Step) where
+-- FOR EVERY START THAT IS NOT REFUSED, EVERY LENT ROW OF PLACES AND EVERY LIST OF STEPS, refused ones included
+module _ (b : Setup) (starts : startRefused b ≡ false) (row : List Packet) (xs : List Step) where
   -- the machine that the steps reach, and their order
   abbrev m : Machine
-  m = machineOf n row xs
+  m = machineOf b row xs
 
   abbrev es : List Entry
-  es = orderFrom (started n row) [] [] xs
+  es = orderFrom (started b row) [] [] xs
 
   -- `new`: A READ THAT FINISHES SO HAS BEFORE IT, IN THE ORDER OF THE RUN AND WHATEVER STEPS FOLLOW, A WRITE OF ITS OBJECT WITH THE STAMP THAT ITS REPLY CARRIES OR ONE ABOVE IT
   pub new-after-write : (at choice o v : ℕ) → answerTo m (Deliver at choice) ≡ Finished o v newRead
       → (c : ℕ) × (messageOf (lookAt (m .waiting .packets) at) ≡ Reply o v c newRead)
-      × (x : ℕ) × (begun o (reads (x ∷ [])) ∈ historyOf n row xs)
-      × ((ys : List Step) → WrittenBefore x c o (orderFrom (started n row) [] [] (xs ++ Deliver at choice ∷ ys)))
+      × (x : ℕ) × (begun o (reads (x ∷ [])) ∈ historyOf b row xs)
+      × ((ys : List Step) → WrittenBefore x c o (orderFrom (started b row) [] [] (xs ++ Deliver at choice ∷ ys)))
   new-after-write at choice o v e =
-      let g = good-run n low high row xs in
+      let g = good-run b starts row xs in
       let by = finished-by-reply m at choice o v newRead e in
-      let (x, b, w, from, ahead) = new-next g at choice o v e in
+      let (x, begins, w, from, ahead) = new-next g at choice o v e in
       let read = read-entry o (x ∷ []) (v ∷ []) in (
         by .carried,
         by .replied,
         x,
-        b,
+        begins,
         λ ys.
-            let whole = orderFrom (started n row) [] [] (xs ++ Deliver at choice ∷ ys) in
-            let stays : Ahead w read whole = rw (order-append (started n row) [] [] xs (Deliver at choice ∷ ys)) (ahead-from w read _ _ _ ys ahead) in
+            let whole = orderFrom (started b row) [] [] (xs ++ Deliver at choice ∷ ys) in
+            let stays : Ahead w read whole = rw (order-append (started b row) [] [] xs (Deliver at choice ∷ ys)) (ahead-from w read _ _ _ ys ahead) in
             record { write = w; ordered = ahead-first w read whole stays; from-carried = from; before = ahead-map (λ (f : Entry). f .operation) w read whole stays },
       )
 
@@ -146,18 +149,18 @@ module _ (n : ℕ) (low : 1 ≤ n) (high : n ≤ 8) (row : List Packet) (xs : Li
     table = tableOf (m .store) r
 
     -- the object's stamp is the tail's
-    stamp-is : stampAt (m .store) table x ≡ stamps (take (good-run n low high row xs .n) (good-run n low high row xs .log)) x
+    stamp-is : stampAt (m .store) table x ≡ stamps (take (good-run b starts row xs .n) (good-run b starts row xs .log)) x
     stamp-is =
-        let g = good-run n low high row xs in
+        let g = good-run b starts row xs in
         let begins = g .core .packets .fine (NormalRead r o x c) waits in
-        ap (λ (q : ℕ). stampAt (m .store) q x) (tail-table (m .store) r tail) ∙ stamp-tail (g .shown) x (g .books .ranged o (reads (x ∷ [])) begins x (here refl))
+        ap (λ (q : ℕ). stampAt (m .store) q x) (tail-table (m .store) r tail) ∙ stamp-tail (chain-held (g .replicas) .shown) x (g .books .ranged o (reads (x ∷ [])) begins x (here refl))
 
     -- `old`: WHEN THE REPLY IS MADE, THE ORDER HAS NO SUCH WRITE
     pub old-before-write : freshness (stampAt (m .store) table x) c ≡ oldRead → Wrote x c es → ⊥
-    old-before-write e = visible-unwritten (good-run n low high row xs .core .visible) x c (rw stamp-is at (old-below (stampAt (m .store) table x) c e))
+    old-before-write e = visible-unwritten (good-run b starts row xs .core .visible) x c (rw stamp-is at (old-below (stampAt (m .store) table x) c e))
 
     -- `new`: it has one
     pub new-when-answered : freshness (stampAt (m .store) table x) c ≡ newRead → Wrote x c es
     new-when-answered e =
         let s = new-from (stampAt (m .store) table x) c e in
-        visible-wrote (good-run n low high row xs .core .visible) x c (s .0) (rw stamp-is at (s .1))
+        visible-wrote (good-run b starts row xs .core .visible) x c (s .0) (rw stamp-is at (s .1))

@@ -1,26 +1,28 @@
 -- The invariant of the machine: its history has an order, its store shows the log, its waiting messages are fine, and its books agree with what happened.
-use mathlib.Core.Path.{_≡_, refl, sym, ap, subst}
+use mathlib.Core.Path.{_≡_, refl, sym, ap, _∙_, subst}
 use mathlib.Core.Bool.{true}
 use mathlib.Core.List.{List, [], _∷_, _++_}
 use mathlib.Core.Logic.{inl, inr}
-use Prim.Native.Nat.{ℕ, suc, _+_, _-_, _≤_, _<_}
+use Prim.Native.Nat.{ℕ, zero, suc, _+_, _≤_, _<_}
 use native.Mathlib.Nat.{sub-self}
 use native.Mathlib.Omega.{arith}
+use lib.ListN.{take}
 use Rattle.limits.specs as limits
 use Rattle.history.specs.History.{_∈_, Kind, reads, writes, History, begun, finished, Begun}
 use Rattle.history.proofs.Lists.{in-insert, cases-append, only-member}
 use Rattle.history.proofs.Entries.{Entry, New, Unfinished}
 use Rattle.history.proofs.Growth.{finished-begun}
-use Rattle.stamp.specs.Stamps.{numberOf}
-use Rattle.switch.specs.Numbers.{numberIn, counterIn, committedIn}
+use Rattle.stamp.specs.Stamps.{stampOf, numberOf}
+use Rattle.switch.specs.Numbers.{numberIn, counterIn, committedIn, directIn}
+use Rattle.switch.proofs.Cover.{Covers}
 use Rattle.switch.proofs.Counted.{SwitchInvariant}
 use Rattle.operations.specs.{isOpen, lastGiven}
-use Rattle.operations.proofs.Laws.{SizedOpens, OpenOnce}
+use Rattle.operations.proofs.Counted.{Counted}
 use Rattle.contexts.specs.{numbersOf}
 use Rattle.store.specs.declared.Write.{Write}
-use Rattle.store.specs.{appliedBy}
-use Rattle.chain.specs.{tailOf}
+use Rattle.joins.specs.{lastNumber}
 use Rattle.replicas.specs.Links.{entries}
+use Rattle.replicas.specs.Visible.{visibleCount, madeVisible}
 use Rattle.waiting.specs.Waiting.{edited}
 use Rattle.waiting.proofs.Laws as waiting
 use Rattle.protocol.specs.declared.Answer.{Answer}
@@ -29,34 +31,48 @@ use Rattle.protocol.specs.declared.Message.{Message}
 use Rattle.protocol.specs.declared.Message.the-variants.{UnstampedWrite, SwitchRead, StampedWrite, DirectRead, NormalRead, Completion, Reply, ContextRead, DirectContext, NormalContext, ContextReply, Unknown}
 use Rattle.protocol.specs.declared.Refusal.{Refusal}
 use Rattle.protocol.specs.declared.Step.{Step}
-use Rattle.protocol.specs.declared.Step.the-variants.{Start, BeginRead, BeginWrite, Deliver, Lose, Repeat, Advance, Replace, Tell, Remove, GiveUp, BeginContext, Join, Copy}
 use Rattle.protocol.specs.Decisions.{Outcome, keeping, refusing}
 use Rattle.protocol.specs.Steps.{Machine, machine, givenBy}
 use Rattle.log.proofs.Shows.{Shows}
 use Rattle.log.proofs.Places.{AtHead}
 use Rattle.log.proofs.Joined.{JoinInvariant}
+use Rattle.protocol.specs.Roles.{Role, Reads, Writes, Delivers, Loses, Repeats, GivesUp, Removes, Copies, Other, roleOf}
+use Rattle.protocol.proofs.Effects.{Sort, Unstamped, Stamped, OfRow, Plain, sortOf}
 use Rattle.linearizability.specs.Run.{begunCount, noted}
+use Rattle.linearizability.proofs.Noted.{notedAs, openNotedAs, noted-as}
 use Rattle.linearizability.proofs.Visible.{shows}
-use Rattle.linearizability.proofs.Packets.{unstamped}
+use Rattle.linearizability.proofs.Logged.{Logged}
+use Rattle.linearizability.proofs.Packets.{Fine, unstamped}
 use Rattle.linearizability.proofs.Core.{Core}
 use Rattle.linearizability.proofs.Bounds.{UpTo}
 use Rattle.linearizability.proofs.Order.{finishOrder}
 use Rattle.linearizability.proofs.Waits.{messages, edited-nothing}
 
 -- whom a waiting message is for: a stamped write for the present head or for a replica that is gone
+abbrev pub SortPlaced : List ℕ → Sort → Type 0
+SortPlaced s (Unstamped o) = Unit {0}
+SortPlaced s (Stamped r) = AtHead s r
+SortPlaced s (OfRow r) = Unit {0}
+SortPlaced s Plain = Unit {0}
+
+-- the replica that a message is for, by its number; 0 where it is for the switch or a client
+abbrev pub addressee : Message → ℕ
+addressee (UnstampedWrite o x v) = 0
+addressee (SwitchRead o x) = 0
+addressee (StampedWrite r w) = r
+addressee (DirectRead r number c o x) = r
+addressee (NormalRead r o x c) = r
+addressee (Completion x t) = 0
+addressee (Reply o v c f) = 0
+addressee (ContextRead o r) = 0
+addressee (DirectContext q number c o r) = q
+addressee (NormalContext q o r) = q
+addressee (ContextReply o r) = 0
+addressee Unknown = 0
+
+-- and its number was given
 abbrev pub Placed : List ℕ → Message → Type 0
-Placed s (UnstampedWrite o x v) = Unit {0}
-Placed s (SwitchRead o x) = Unit {0}
-Placed s (StampedWrite r w) = AtHead s r
-Placed s (DirectRead r number t o x) = Unit {0}
-Placed s (NormalRead r o x c) = Unit {0}
-Placed s (Completion x t) = Unit {0}
-Placed s (Reply o v c f) = Unit {0}
-Placed s (ContextRead o r) = Unit {0}
-Placed s (DirectContext q number t o r) = Unit {0}
-Placed s (NormalContext q o r) = Unit {0}
-Placed s (ContextReply o r) = Unit {0}
-Placed s Unknown = Unit {0}
+Placed s q = SortPlaced s (sortOf q) × (addressee q ≤ lastNumber s)
 
 -- the operation is on objects that there are
 abbrev pub InRange : Kind → Type 0
@@ -71,8 +87,8 @@ EndsOnce (finished o vs ∷ h) = Unfinished h o × EndsOnce h
 
 -- what the machine keeps of the operations agrees with what happened
 pub record Books (opens : List ℕ) (h : History) : Type 0 where
-  pub cells : SizedOpens opens
-  pub open-once : OpenOnce opens
+  -- those open are numbered from 1 to the last number given, each once
+  pub open-numbers : Counted opens
   -- an open operation was begun, and has not finished
   pub opened : (o : ℕ) → isOpen opens o ≡ true → Begun h o × Unfinished h o
   pub numbered : lastGiven opens ≡ begunCount h
@@ -86,16 +102,49 @@ pub record SwitchHolds (issued : List Write) (w : List ℕ) : Type 0 where
   pub invariant : SwitchInvariant w
   -- a stamp bears the present switch's number or a former one's, which is below it
   pub numbers : (u : Write) → u ∈ issued → numberOf (u .stamp) ≤ numberIn w
+  -- none is above the last that the switch gave
+  pub given : (u : Write) → u ∈ issued → u .stamp ≤ stampOf (numberIn w) (counterIn w)
+  -- the writes that the present switch stamped are covered by last-committed or by their objects' marks
+  pub covered : (u : Write) → u ∈ issued → numberOf (u .stamp) ≡ numberIn w → Covers w (u .object) (u .stamp)
+  -- Req 10: direct reads are on only with last-committed of the present switch
+  pub own : directIn w ≡ true → numberOf (committedIn w) ≡ numberIn w
 
--- es is the order; issued are the writes ever stamped, log those that the head has applied, and the tail has applied the first n
+-- every object lives in chain 0, which shows these writes
+abbrev pub oneChain : ℕ → ℕ
+oneChain x = 0
+
+abbrev pub only : List Write → ℕ → List Write
+only ws zero = ws
+only ws (suc d) = []
+
+-- the core and what holds of a message, with one chain that shows the first n writes of its log; c is the last-committed stamp
+abbrev pub ChainCore : History → List Entry → List Write → List Write → ℕ → List Message → ℕ → List ℕ → Type 0
+ChainCore h es issued log n ms c opens = Core oneChain h es issued (only (take n log)) ms (λ d. c) opens
+
+abbrev pub ChainFine : History → List Entry → List Write → List Write → ℕ → List ℕ → Message → Type 0
+ChainFine h es issued log n opens m = Fine oneChain h es issued (only (take n log)) opens m
+
+-- what holds of the replicas of a chain: log are the writes that the head has applied, and the tail has applied the first n
+pub record ChainHolds (s : List ℕ) (log : List Write) (n : ℕ) : Type 0 where
+  pub shown : Shows s log n
+  -- the places of the replicas, and what a newcomer has
+  pub joined : JoinInvariant s
+
+-- what holds of the replicas, by the kind of store: the first n writes of the log are visible
+pub data ReplicasHold (s : List ℕ) (log : List Write) (n : ℕ) : Type 0 where
+  in-chain : ChainHolds s log n → ReplicasHold s log n
+
+pub chain-held : {s : List ℕ} {log : List Write} {n : ℕ} → ReplicasHold s log n → ChainHolds s log n
+chain-held (in-chain k) = k
+
+-- es is the order; issued are the writes ever stamped
 pub record Good (m : Machine) (h : History) (es : List Entry) : Type 0 where
   pub issued : List Write
   pub log : List Write
   pub n : ℕ
-  pub core : Core h es issued log n (messages (m .waiting)) (committedIn (m .switch)) (m .opens)
-  pub shown : Shows (m .store) log n
-  -- the places of the replicas, and what a newcomer has
-  pub joined : JoinInvariant (m .store)
+  pub core : ChainCore h es issued log n (messages (m .waiting)) (committedIn (m .switch)) (m .opens)
+  pub logged : Logged oneChain issued log 0 n
+  pub replicas : ReplicasHold (m .store) log n
   pub posted : (p : Message) → p ∈ messages (m .waiting) → Placed (m .store) p
   pub books : Books (m .opens) h
   -- each stamp that the switch gave and each unstamped write that waits has an operation of its own
@@ -109,14 +158,6 @@ pub record Good (m : Machine) (h : History) (es : List Entry) : Type 0 where
 abbrev pub done : Machine → Outcome → Machine
 done m u = machine (u .switch) (u .store) (u .opens) (edited (m .waiting) (u .decision .edit))
 
--- how many writes the tail has applied
-abbrev pub tailApplied : Machine → ℕ
-tailApplied m = appliedBy (m .store) (tailOf (m .store))
-
--- the writes that a step made visible: those that the tail has applied, or that it need not apply any more
-abbrev pub madeVisible : Machine → Machine → List Write
-madeVisible m k = entries (k .store) (tailApplied m) (tailApplied k - tailApplied m)
-
 abbrev pub finishing : Answer → History → List Entry → List Entry
 finishing Done h es = es
 finishing (Finished o v f) h es = finishOrder h o (v ∷ []) es
@@ -125,36 +166,34 @@ finishing (Refused r) h es = es
 
 -- the order one step later: a write goes to its end when it becomes visible, a read that finishes to the last place at which its object holds its value
 abbrev pub orderNext : Machine → Machine → Answer → History → List Entry → List Entry
-orderNext m k a h es = finishing a h (shows es (madeVisible m k))
+orderNext m k a h es = finishing a h (shows es (madeVisible (m .store) (k .store)))
 
 -- what holds after a step, of its outcome
 abbrev pub Then : Step → Machine → History → List Entry → Outcome → Type 0
 Then x m h es u = Good (done m u) (noted x (u .decision .answer) h) (orderNext m (done m u) (u .decision .answer) h es)
 
--- no write becomes visible while the tail applies none
-pub nothing-visible : (m k : Machine) → tailApplied k ≡ tailApplied m → madeVisible m k ≡ []
-unfolding entries
-nothing-visible m k e = rw (e, sub-self (tailApplied m))
+-- no write becomes visible while as many are visible as before
+pub nothing-visible : (s t : List ℕ) → visibleCount t ≡ visibleCount s → madeVisible s t ≡ []
+unfolding madeVisible entries
+nothing-visible s t e = rw (e, sub-self (visibleCount s))
 
-pub order-stays : (m k : Machine) (es : List Entry) → tailApplied k ≡ tailApplied m → shows es (madeVisible m k) ≡ es
-order-stays m k es e = rw (nothing-visible m k e)
+pub order-stays : (s t : List ℕ) (es : List Entry) → visibleCount t ≡ visibleCount s → shows es (madeVisible s t) ≡ es
+order-stays s t es e = rw (nothing-visible s t e)
 
--- a refusal is no event
+-- a refusal is no event, and opens and closes none
+pub refused-same : (k : Role) (r : Refusal) (h : History) (l : List ℕ) → (notedAs k (Refused r) h ≡ h) × (openNotedAs k (Refused r) h l ≡ l)
+refused-same (Reads xs) r h l = (refl, refl)
+refused-same (Writes x v) r h l = (refl, refl)
+refused-same (Delivers at) r h l = (refl, refl)
+refused-same (Loses at) r h l = (refl, refl)
+refused-same (Repeats at) r h l = (refl, refl)
+refused-same (GivesUp o) r h l = (refl, refl)
+refused-same (Removes a) r h l = (refl, refl)
+refused-same Copies r h l = (refl, refl)
+refused-same Other r h l = (refl, refl)
+
 pub noted-refused : (x : Step) (r : Refusal) (h : History) → noted x (Refused r) h ≡ h
-noted-refused (Start n) r h = refl
-noted-refused (BeginRead x) r h = refl
-noted-refused (BeginWrite x v) r h = refl
-noted-refused (Deliver at choice) r h = refl
-noted-refused (Lose at) r h = refl
-noted-refused (Repeat at) r h = refl
-noted-refused (Advance a) r h = refl
-noted-refused (Replace number) r h = refl
-noted-refused (Tell a) r h = refl
-noted-refused (Remove a) r h = refl
-noted-refused (GiveUp o) r h = refl
-noted-refused (BeginContext x) r h = refl
-noted-refused Join r h = refl
-noted-refused Copy r h = refl
+noted-refused x r h = noted-as x (Refused r) h [] .0 ∙ refused-same (roleOf x) r h [] .0
 
 -- a refused step leaves the machine as it was
 pub refused-stays : (m : Machine) (r : Refusal) → done m (keeping (givenBy m) (refusing r)) ≡ m
@@ -164,25 +203,20 @@ refused-stays m r = ap (machine (m .switch) (m .store) (m .opens)) (edited-nothi
 pub good-refused : (x : Step) {m : Machine} {h : History} {es : List Entry} (r : Refusal) → Good m h es → Then x m h es (keeping (givenBy m) (refusing r))
 unfolding refusing
 good-refused x {m} {h} {es} r g =
-    rw (noted-refused x r h, order-stays m (done m (keeping (givenBy m) (refusing r))) es refl)
+    rw (noted-refused x r h, order-stays (m .store) (m .store) es refl)
     (subst (λ (k : Machine). Good k h es) (sym (refused-stays m r)) g)
 
 -- ---- parts of the invariant
 
 -- a message stays well placed while every write that waits for the head does
-pub placed-by : (s t : List ℕ) → ((r : ℕ) → AtHead s r → AtHead t r) → (q : Message) → Placed s q → Placed t q
-placed-by s t f (UnstampedWrite o x v) p = p
-placed-by s t f (SwitchRead o x) p = p
-placed-by s t f (StampedWrite r w) p = f r p
-placed-by s t f (DirectRead r number c o x) p = p
-placed-by s t f (NormalRead r o x c) p = p
-placed-by s t f (Completion x c) p = p
-placed-by s t f (Reply o v c d) p = p
-placed-by s t f (ContextRead o r) p = p
-placed-by s t f (DirectContext q number c o r) p = p
-placed-by s t f (NormalContext q o r) p = p
-placed-by s t f (ContextReply o r) p = p
-placed-by s t f Unknown p = p
+pub placed-by : (s t : List ℕ) → lastNumber s ≤ lastNumber t → ((r : ℕ) → AtHead s r → AtHead t r) → (q : Message) → Placed s q → Placed t q
+placed-by s t l f q p = (go (sortOf q) (p .0), omega (arith, l, p .1))
+  where
+    go : (k : Sort) → SortPlaced s k → SortPlaced t k
+    go (Unstamped o) p = p
+    go (Stamped r) p = f r p
+    go (OfRow r) p = p
+    go Plain p = p
 
 -- the messages of a list that lost one, and of one that gained one
 pub posted-lost : {s : List ℕ} (a : List Message) (p : Message) (b : List Message) → ((q : Message) → q ∈ a ++ p ∷ b → Placed s q) → (q : Message) → q ∈ a ++ b → Placed s q

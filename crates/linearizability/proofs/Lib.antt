@@ -1,6 +1,8 @@
 -- The order of operations of every run: proofs.
 pub mod Members
+pub mod Noted
 pub mod Visible
+pub mod Logged
 pub mod Packets
 pub mod Core
 pub mod Copies
@@ -8,7 +10,11 @@ pub mod Order
 pub mod Bounds
 pub mod Waits
 pub mod Invariant
+pub mod SwitchLaws
+pub mod Replicas
 pub mod Deliveries
+pub mod ChainMoves
+pub mod Messages
 pub mod Steps
 pub mod OneOrder
 pub mod Listing
@@ -19,4 +25,6 @@ pub mod Edits
 pub mod Rows
 pub mod Freshness
 pub mod NewTail
+pub mod GivenNumbers
+pub mod Removal
 pub mod OwnCompletion

@@ -1,30 +1,32 @@
 -- Document 02, Req 04: what holds of joins in every run. When the newcomer becomes the tail its tables are the old tail's, object by object; and no number is given twice.
 use mathlib.Core.Path.{_≡_, refl}
-use mathlib.Core.Bool.{true}
+use mathlib.Core.Bool.{true, false}
 use mathlib.Core.List.{List, []}
 use Prim.Native.Nat.{ℕ, _+_, _≤_, _<_}
 use native.Mathlib.Omega.{arith}
-use lib.Dec.{leb, ltb}
+use lib.Dec.{ltb}
 use lib.ListN.{length}
+use Rattle.lists.proofs.Tests.{by-test, both}
 use Rattle.limits.specs as limits
-use Rattle.history.proofs.Tests.{by-test}
 use Rattle.store.specs.{liveCount, numberAt, highestOf, permittedBy, valueAt, stampAt}
-use Rattle.chain.specs.{isLive, tailOf}
+use Rattle.chain.specs.{isLive, tailOf, tailNumber}
 use Rattle.joins.specs.{isJoining, copiesMade, newcomer, newcomerNumber, lastNumber, isFull, beginning, copying}
 use Rattle.replicas.specs.Links.{linkInto}
 use Rattle.waiting.specs.declared.Packet.{Packet}
+use Rattle.protocol.specs.declared.Setup.{Setup}
+use Rattle.protocol.specs.Starts.{startRefused}
 use Rattle.protocol.specs.declared.Answer.the-variants.{Done, Refused}
 use Rattle.protocol.specs.declared.Step.{Step}
 use Rattle.protocol.specs.declared.Step.the-variants.{Join, Copy}
 use Rattle.protocol.specs.Decisions.{Outcome, Stored, changingStore, refusing}
 use Rattle.protocol.specs.Steps.{Machine, givenBy, outcomeOf, joining, copyingOn, decided, isMalformed, decidedIn, answerTo, after}
 use Rattle.log.proofs.Joins.{not-full, newcomer-beginning, last-beginning}
-use Rattle.log.proofs.NewTail.{live-more, tail-value, tail-stamp, tail-highest, tail-permitted}
+use Rattle.log.proofs.Places.{joining-set}
+use Rattle.log.proofs.NewTail.{live-more, tail-newcomer, tail-newcomer-number, tail-value, tail-stamp, tail-highest, tail-permitted}
 use Rattle.log.proofs.Links.{link-copying, link-newcomer}
-use Rattle.linearizability.proofs.Deliveries.{both}
-use Rattle.linearizability.proofs.Limits.{machineOf, good-run}
+use Rattle.linearizability.proofs.Limits.{held-run, machineOf}
 
-refused : {A : Type 0} {r : _} → Refused r ≡ Done → A
+pub refused : {A : Type 0} {r : _} → Refused r ≡ Done → A
 refused e = absurd (let z : _≡_ {A = ℕ} 0 1 = cc in omega (arith, z))
 
 -- a copy that is done: a join was under way
@@ -36,8 +38,7 @@ unfolding decidedIn decided copyingOn refusing
 copied-on m =
     both P (isMalformed Copy) refused
     (both P (ltb (length (m .waiting .packets)) limits.waiting) refused
-    (by-test (λ (u : Stored). P (changingStore (givenBy m) u)) (isJoining (m .store)) _ _
-    (λ joins. both (λ (u : Stored). P (changingStore (givenBy m) u)) (leb limits.replicas (liveCount (m .store))) refused (λ e. (joins, refl))) (λ none. refused)))
+    (by-test (λ (u : Stored). P (changingStore (givenBy m) u)) (isJoining (m .store)) (λ joins e. (joins, refl)) (λ none. refused)))
   where
     P : Outcome → Type 0
     P = Copied (m .store)
@@ -51,17 +52,17 @@ unfolding decidedIn decided joining refusing
 begun-join m =
     both P (isMalformed Join) refused
     (both P (ltb (length (m .waiting .packets)) limits.waiting) refused
-    (by-test (λ (u : Stored). P (changingStore (givenBy m) u)) (isFull (m .store)) _ _ (λ full. refused)
+    (by-test (λ (u : Stored). P (changingStore (givenBy m) u)) (isFull (m .store)) (λ full. refused)
     (λ room. both (λ (u : Stored). P (changingStore (givenBy m) u)) (isJoining (m .store)) refused
     (λ e. let b = not-full (m .store) room in (b .0, b .1, refl)))))
   where
     P : Outcome → Type 0
     P = Begun (m .store)
 
--- FOR EVERY NUMBER OF REPLICAS FROM 1 TO 8 AT THE START, EVERY LENT ROW OF PLACES AND EVERY LIST OF STEPS, refused ones included
-module _ (n : ℕ) (low : 1 ≤ n) (high : n ≤ 8) (row : List Packet) (xs : List Step) where
+-- FOR EVERY START THAT IS NOT REFUSED, EVERY LENT ROW OF PLACES AND EVERY LIST OF STEPS, refused ones included
+module _ (b : Setup) (starts : startRefused b ≡ false) (row : List Packet) (xs : List Step) where
   abbrev m : Machine
-  m = machineOf n row xs
+  m = machineOf b row xs
 
   abbrev s : List ℕ
   s = m .store
@@ -79,39 +80,46 @@ module _ (n : ℕ) (low : 1 ≤ n) (high : n ≤ 8) (row : List Packet) (xs : Li
     unfolding answerTo after
     store-is = copied-on m done .1
 
-    -- one more is live, and it is the tail: ITS TABLES ARE THE OLD TAIL'S, OBJECT BY OBJECT
+    -- one more is live, and it is the tail, by table and by number
+    pub new-tail-is : tailOf t ≡ newcomer s
+    new-tail-is = rw store-is (tail-newcomer (held-run b starts row xs .shown) (held-run b starts row xs .joined) (joining-set s joins) all)
+
+    pub new-tail-number : tailNumber t ≡ newcomerNumber s
+    new-tail-number = rw store-is (tail-newcomer-number (held-run b starts row xs .shown) (held-run b starts row xs .joined) (joining-set s joins) all)
+
+    -- ITS TABLES ARE THE OLD TAIL'S, OBJECT BY OBJECT
     pub one-more-live : liveCount t ≡ liveCount s + 1
-    one-more-live = rw store-is (live-more (good-run n low high row xs .shown) (good-run n low high row xs .joined) joins all)
+    one-more-live = rw store-is (live-more (held-run b starts row xs .shown) (held-run b starts row xs .joined) (joining-set s joins) all)
 
     pub new-tail-value : (o : ℕ) → o < 1024 → valueAt t (tailOf t) o ≡ valueAt s (tailOf s) o
-    new-tail-value o h = rw store-is (tail-value (good-run n low high row xs .shown) (good-run n low high row xs .joined) joins all o h)
+    new-tail-value o h = rw store-is (tail-value (held-run b starts row xs .shown) (held-run b starts row xs .joined) (joining-set s joins) all o h)
 
     pub new-tail-stamp : (o : ℕ) → o < 1024 → stampAt t (tailOf t) o ≡ stampAt s (tailOf s) o
-    new-tail-stamp o h = rw store-is (tail-stamp (good-run n low high row xs .shown) (good-run n low high row xs .joined) joins all o h)
+    new-tail-stamp o h = rw store-is (tail-stamp (held-run b starts row xs .shown) (held-run b starts row xs .joined) (joining-set s joins) all o h)
 
     -- 'with the old tail's highest stamp and permitted switch, and an empty link'
     pub new-tail-highest : highestOf t (tailOf t) ≡ highestOf s (tailOf s)
-    new-tail-highest = rw store-is (tail-highest (good-run n low high row xs .shown) (good-run n low high row xs .joined) joins all)
+    new-tail-highest = rw store-is (tail-highest (held-run b starts row xs .shown) (held-run b starts row xs .joined) (joining-set s joins) all)
 
     pub new-tail-permitted : permittedBy t (tailOf t) ≡ permittedBy s (tailOf s)
-    new-tail-permitted = rw store-is (tail-permitted (good-run n low high row xs .shown) (good-run n low high row xs .joined) joins all)
+    new-tail-permitted = rw store-is (tail-permitted (held-run b starts row xs .shown) (held-run b starts row xs .joined) (joining-set s joins) all)
 
     pub new-tail-link : linkInto t (newcomer s) ≡ []
-    new-tail-link = rw store-is (link-newcomer (good-run n low high row xs .shown) (good-run n low high row xs .joined) joins all)
+    new-tail-link = rw store-is (link-newcomer (held-run b starts row xs .shown) (held-run b starts row xs .joined) (joining-set s joins) all)
 
     -- and the others' links stay
     pub other-links : (r : ℕ) → isLive s r ≡ true → linkInto t r ≡ linkInto s r
-    other-links r live = rw store-is (link-copying (good-run n low high row xs .shown) (good-run n low high row xs .joined) joins r live)
+    other-links r live = rw store-is (link-copying (held-run b starts row xs .shown) (held-run b starts row xs .joined) (joining-set s joins) r live)
 
   -- 'the next number never used': it is the last given from then on, and above that of every live replica
   pub newcomer-next : answerTo m Join ≡ Done
       → (newcomerNumber (after m Join .store) ≡ lastNumber s + 1) × (lastNumber (after m Join .store) ≡ lastNumber s + 1) × ((p : ℕ) → p < liveCount s → numberAt s p ≤ lastNumber s)
   unfolding answerTo after
   newcomer-next done =
-      let g = good-run n low high row xs in
-      let b = begun-join m done in
-      rw (b .2) (newcomer-beginning s (g .shown .sized) (b .0) (b .1), last-beginning s (g .shown .sized) (b .0) (b .1), λ p h. g .joined .places .given p h)
+      let k = held-run b starts row xs in
+      let fits = begun-join m done in
+      rw (fits .2) (newcomer-beginning s (k .shown .sized) (fits .0) (fits .1), last-beginning s (k .shown .sized) (fits .0) (fits .1), λ p h. k .joined .places .given p h)
 
   -- two live replicas have two numbers
   pub live-numbers-apart : (p q : ℕ) → p < liveCount s → q < liveCount s → numberAt s p ≡ numberAt s q → p ≡ q
-  live-numbers-apart = good-run n low high row xs .joined .places .numbers-apart
+  live-numbers-apart = held-run b starts row xs .joined .places .numbers-apart

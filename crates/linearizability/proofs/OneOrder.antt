@@ -1,27 +1,38 @@
 -- Demand 3: every run from an empty store has one order of its operations, and it is computed from the run.
-use mathlib.Core.Path.{_≡_}
+use mathlib.Core.Path.{_≡_, refl, sym, subst}
+use mathlib.Core.Bool.{false}
 use mathlib.Core.List.{List, [], _∷_}
-use Prim.Native.Nat.{ℕ, _≤_}
+use Prim.Native.Nat.{ℕ, zero, suc}
 use native.Mathlib.Omega.{arith}
+use Rattle.lists.proofs.Tests.{untrue}
 use Rattle.history.specs.History.{History}
 use Rattle.history.specs.Linearizability.{OneOrder}
 use Rattle.history.proofs.Lists.{no-member}
 use Rattle.history.proofs.Entries.{Entry, Linearizes}
 use Rattle.history.proofs.Claim.{numbers, one-order-of}
-use Rattle.operations.proofs.Laws.{sized-none, last-none, none-open, once-none}
+use Rattle.operations.specs.{noneOpen}
+use Rattle.operations.proofs.Counted.{counted-none}
+use Rattle.operations.proofs.Laws.{last-none, none-open}
 use Rattle.switch.proofs.Laws.{new-counter, new-committed}
-use Rattle.switch.proofs.Counted.{invariant-new}
+use Rattle.store.specs.declared.Write.{Write}
 use Rattle.waiting.specs.declared.Packet.{Packet}
 use Rattle.waiting.specs.Waiting.{noneWait}
 use Rattle.waiting.proofs.Laws.{waits-none, exact-none}
+use Rattle.protocol.specs.declared.Setup.{Setup}
+use Rattle.protocol.specs.declared.Setup.the-variants.{Missing, Chain}
+use Rattle.protocol.specs.Starts.{startRefused}
+use Rattle.protocol.proofs.Refusals.{start-accepted}
 use Rattle.protocol.specs.declared.Step.{Step}
 use Rattle.protocol.specs.Steps.{Machine, answerTo, after, started}
 use Rattle.log.proofs.Shows.{shows-start}
 use Rattle.log.proofs.Joined.{joined-start}
 use Rattle.linearizability.specs.Run.{noted, historyFrom, historyOf}
-use Rattle.linearizability.proofs.Core.{core-start}
+use Rattle.linearizability.proofs.Visible.{noneShown}
+use Rattle.linearizability.proofs.Logged.{logged-start}
+use Rattle.linearizability.proofs.Core.{Core, core-start}
 use Rattle.linearizability.proofs.Waits.{messages}
-use Rattle.linearizability.proofs.Invariant.{Good, orderNext}
+use Rattle.linearizability.proofs.SwitchLaws.{holds-new}
+use Rattle.linearizability.proofs.Invariant.{oneChain, only, in-chain, Good, orderNext}
 use Rattle.linearizability.proofs.Deliveries.{good-of}
 use Rattle.linearizability.proofs.Steps.{good-step}
 
@@ -30,21 +41,29 @@ abbrev pub orderFrom : Machine → History → List Entry → List Step → List
 orderFrom m h es [] = es
 orderFrom m h es (x ∷ xs) = orderFrom (after m x) (noted x (answerTo m x) h) (orderNext m (after m x) (answerTo m x) h es) xs
 
--- the order of the operations of a run from an empty store of n replicas
-abbrev pub orderOf : ℕ → List Packet → List Step → List ℕ
-orderOf n row xs = numbers (orderFrom (started n row) [] [] xs)
+-- the order of the operations of a run from the empty store that a start gives
+abbrev pub orderOf : Setup → List Packet → List Step → List ℕ
+orderOf b row xs = numbers (orderFrom (started b row) [] [] xs)
 
 -- an empty store
 no-messages : (row : List Packet) → messages (noneWait row) ≡ []
 no-messages row = rw (waits-none row)
 
-pub good-start : (n : ℕ) → 1 ≤ n → n ≤ 8 → (row : List Packet) → Good (started n row) [] []
-unfolding started
-good-start n low high row =
-    good-of [] [] 0 [] (no-messages row) (rw (new-committed 1) core-start) (shows-start n low high) (joined-start n high) (λ p m. absurd (no-member m))
+core-begins : Core oneChain [] [] [] (only []) [] (λ d. 0) noneOpen
+core-begins = subst (λ (f : ℕ → List Write). Core oneChain [] [] [] f [] (λ d. 0) noneOpen) (λ j d. empty d j) core-start
+  where
+    empty : (d : ℕ) → noneShown d ≡ only [] d
+    empty zero = refl
+    empty (suc d) = refl
+
+pub good-start : (b : Setup) → startRefused b ≡ false → (row : List Packet) → Good (started b row) [] []
+unfolding started startRefused
+good-start Missing starts row = untrue (sym starts)
+good-start (Chain n) starts row =
+    let fits = start-accepted n .0 starts in
+    good-of [] [] 0 [] (no-messages row) (subst (λ (f : ℕ → ℕ). Core oneChain [] [] [] (only []) [] f noneOpen) (λ j d. sym (new-committed 1) j) core-begins) logged-start (in-chain (record { shown = shows-start n (fits .0) (fits .1); joined = joined-start n (fits .1) })) (λ p m. absurd (no-member m))
     (record {
-      cells = sized-none;
-      open-once = once-none;
+      open-numbers = counted-none;
       opened = λ o e. absurd (none-open o e);
       numbered = last-none;
       few = omega (arith, last-none);
@@ -52,7 +71,7 @@ good-start n low high row =
       ranged = λ o k i. absurd (no-member i);
       ends-once = tt;
     })
-    (omega (arith, new-counter 1)) (record { invariant = invariant-new 1; numbers = λ u i. absurd (no-member i) }) (exact-none row)
+    (omega (arith, new-counter 1)) (holds-new 1 (omega arith) (λ u i. absurd (no-member i))) (exact-none row)
 
 -- one step of the machine keeps the invariant
 pub good-after : {m : Machine} {h : History} {es : List Entry} → Good m h es → (x : Step) → Good (after m x) (noted x (answerTo m x) h) (orderNext m (after m x) (answerTo m x) h es)
@@ -63,7 +82,7 @@ run-linearizes : (xs : List Step) (m : Machine) (h : History) (es : List Entry) 
 run-linearizes [] m h es g = g .core .visible .linearizes
 run-linearizes (x ∷ xs) m h es g = run-linearizes xs (after m x) (noted x (answerTo m x) h) (orderNext m (after m x) (answerTo m x) h es) (good-after g x)
 
--- FOR EVERY NUMBER OF REPLICAS FROM 1 TO 8, EVERY LENT ROW OF PLACES, however many there are and whatever they hold, AND EVERY LIST OF STEPS, refused ones
+-- FOR EVERY START THAT IS NOT REFUSED, EVERY LENT ROW OF PLACES, however many there are and whatever they hold, AND EVERY LIST OF STEPS, refused ones
 -- included, one order explains the whole run
-pub one-order : (n : ℕ) → 1 ≤ n → n ≤ 8 → (row : List Packet) → (xs : List Step) → OneOrder (historyOf n row xs) (orderOf n row xs)
-one-order n low high row xs = one-order-of (run-linearizes xs (started n row) [] [] (good-start n low high row))
+pub one-order : (b : Setup) → startRefused b ≡ false → (row : List Packet) → (xs : List Step) → OneOrder (historyOf b row xs) (orderOf b row xs)
+one-order b starts row xs = one-order-of (run-linearizes xs (started b row) [] [] (good-start b starts row))

@@ -6,47 +6,46 @@ use mathlib.Core.List.{List, [], _∷_, _++_}
 use mathlib.Core.Logic.{inl, inr, _≢_, _↔_}
 use Prim.Native.Nat.{ℕ, suc, _+_, _≤_, _<_}
 use native.Mathlib.Omega.{arith}
-use lib.Dec.{eqb, leb, ltb}
+use lib.Dec.{ltb}
 use lib.ListN.{length, take, drop}
 use lib.Seq.{split-at}
 use borrow.Author.Tests.{lt-leb, le-ltb}
+use Rattle.lists.proofs.Tests.{by-test, both}
 use Rattle.limits.specs as limits
 use Rattle.lists.specs.{indexOf, without}
 use Rattle.lists.proofs.Closing.{length-without}
 use Rattle.lists.proofs.Index.{index-at, in-index}
 use Rattle.history.specs.History.{_∈_, Kind, reads, writes, History, begun, finished}
 use Rattle.history.proofs.Lists.{here, there, no-member, cases-cons, cases-insert, in-insert, Pairwise, pairwise-remove, pairwise-at}
-use Rattle.history.proofs.Tests.{by-test}
 use Rattle.history.proofs.Entries.{Entry}
 use Rattle.operations.specs.{openCount, isOpen, lastGiven, roomToOpen, noneOpen, opening, closing}
 use Rattle.operations.proofs.Behind.{SameOpens, same-self, same-count, same-open}
 use Rattle.contexts.specs.declared.Objects.{Objects}
-use Rattle.contexts.specs.{contextOf, numbersOf, areObjects, areDifferent, isNaming, isCount, isContext, contextAt, freeRow}
+use Rattle.contexts.specs.{contextOf, numbersOf, areObjects, areDifferent, isNaming, freeRow}
 use Rattle.contexts.proofs.Rows.{opens-holding, opens-freeing}
 use Rattle.operations.proofs.Laws.{count-none, none-open, count-opening, opened-now, still-open, open-before, room-below, full-count, count-closing, others-stay-open, open-after-closing}
-use Rattle.switch.specs.Numbers.{numberIn, directIn}
-use Rattle.switch.specs.DirtySet.{lookedUp, stampFor, marked}
-use Rattle.chain.specs.{isMember, isTail, tableOf, allPermit}
-use Rattle.replicas.specs.Replicas.{accepts, answersDirect}
 use Rattle.waiting.specs.declared.Packet.{Packet}
-use Rattle.waiting.specs.Waiting.{lookAt, noneWait}
+use Rattle.waiting.specs.Waiting.{noneWait}
 use Rattle.waiting.proofs.Laws.{length-edited}
-use Rattle.protocol.specs.declared.Answer.the-variants.{Done, Refused}
-use Rattle.protocol.specs.declared.Decision.{Decision}
+use Rattle.protocol.specs.declared.Setup.{Setup}
+use Rattle.protocol.specs.Starts.{startRefused}
+use Rattle.protocol.specs.declared.Answer.{Answer}
+use Rattle.protocol.specs.declared.Answer.the-variants.{Done, Finished, FinishedContext, Refused}
+use Rattle.waiting.specs.declared.Edit.{Edit}
 use Rattle.protocol.specs.declared.Message.{Message}
-use Rattle.protocol.specs.declared.Message.the-variants.{UnstampedWrite, SwitchRead, StampedWrite, DirectRead, NormalRead, Completion, Reply, ContextRead, DirectContext, NormalContext, ContextReply, Unknown}
-use Rattle.protocol.specs.declared.Refusal.{Refusal}
-use Rattle.protocol.specs.declared.Refusal.the-variants.{Format, ObjectNumber, OperationsUsedUp, OpenFull, WaitingFull, BufferTooShort, SameObject}
+use Rattle.protocol.specs.declared.Refusal.the-variants.{OpenFull}
 use Rattle.protocol.specs.declared.Step.{Step}
-use Rattle.protocol.specs.declared.Step.the-variants.{Start, BeginRead, BeginWrite, Deliver, Lose, Repeat, Advance, Replace, Tell, Remove, GiveUp, BeginContext, Join, Copy}
-use Rattle.protocol.specs.Messages.{messageOf, isUnstamped, isOfContext}
-use Rattle.protocol.specs.Decisions.{Given, Outcome, Switched, Stored, Opened, switched, opened, keeping, changingSwitch, changingStore, changingOpens, refusing, dropping, passing, overfull}
-use Rattle.protocol.specs.Contexts.{released, leaving, droppingRow, goesDirectly, contextRead, answersContext, answeringContext, directContext, normalContext, contextReply}
-use Rattle.protocol.specs.Delivery.{stamping, unstampedWrite, switchRead, stampedWrite, directRead, normalRead, completion, reply, deliveredMessage}
-use Rattle.protocol.specs.Steps.{Machine, givenBy, outcomeOf, beginOperation, beginContext, delivered, lost, copied, repeated, givingUp, decided, isMalformed, decidedIn, positionOf, answerTo, after, started}
+use Rattle.protocol.specs.declared.Step.the-variants.{BeginRead, BeginWrite, BeginContext}
+use Rattle.protocol.specs.Messages.{isOfContext}
+use Rattle.protocol.specs.Decisions.{Given, Outcome, Opened, opened, changingOpens, refusing, overfull}
+use Rattle.protocol.specs.Contexts.{released}
+use Rattle.protocol.specs.Steps.{Machine, givenBy, outcomeOf, beginOperation, beginContext, decided, isMalformed, decidedIn, answerTo, after, started}
+use Rattle.protocol.specs.Roles.{Role}
+use Rattle.protocol.proofs.Effects.{Quiet, turned-down, delivers, loses, repeats, removal, copy, other, OpensEffect, quiet, begins-read, begins-write, finishes as finishing, finishes-context as finishing-context, gives-up as giving-up}
+use Rattle.protocol.proofs.Effects.{RowEffect, rows-kept, row-passed, row-answered, row-freed, row-released, row-given, row-copied, effect}
+use Rattle.linearizability.proofs.Noted.{notedAs, openNotedAs, noted-as}
 use Rattle.linearizability.specs.Run.{begunCount, noted, historyOf, openWithout, openNoted, openFrom, openOf}
-use Rattle.linearizability.proofs.Invariant.{Good}
-use Rattle.linearizability.proofs.Deliveries.{both}
+use Rattle.linearizability.proofs.Invariant.{Good, refused-same}
 use Rattle.linearizability.proofs.Steps.{next-is}
 use Rattle.linearizability.proofs.OneOrder.{good-start, good-after}
 use Rattle.linearizability.proofs.Limits.{reached, machineOf, good-run}
@@ -62,160 +61,42 @@ pub data Change (cells : List ℕ) (h : History) (l : List ℕ) (cells' : List �
   finishes : (o : ℕ) (vs : List ℕ) → isOpen cells o ≡ true → SameOpens (closing cells o) cells' → h' ≡ finished o vs ∷ h → l' ≡ openWithout o l → Change cells h l cells' h' l'
   gives-up : (o : ℕ) → isOpen cells o ≡ true → SameOpens (closing cells o) cells' → h' ≡ h → l' ≡ openWithout o l → Change cells h l cells' h' l'
 
-module _ (g : Given) (h : History) (l : List ℕ) where
-  abbrev Changes : Step → Outcome → Type 0
-  Changes x u = Change (g .opens) h l (u .opens) (noted x (u .decision .answer) h) (openNoted x (u .decision .answer) h l)
+-- a step that begins, finishes and gives up nothing is not noted
+quiet-same : {k : Role} {a : Answer} → Quiet k a → (h : History) (l : List ℕ) → (notedAs k a h ≡ h) × (openNotedAs k a h l ≡ l)
+quiet-same (turned-down k r) h l = refused-same k r h l
+quiet-same (delivers at) h l = (refl, refl)
+quiet-same (loses at) h l = (refl, refl)
+quiet-same (repeats at) h l = (refl, refl)
+quiet-same (removal r) h l = (refl, refl)
+quiet-same copy h l = (refl, refl)
+quiet-same other h l = (refl, refl)
 
-  abbrev Decides : Step → Decision → Type 0
-  Decides x d = Changes x (keeping g d)
+-- the rows lie behind the open operations
+same-rows : {p : Packet} {q : Message} {held : ℕ} {e : Edit} {l l' : List ℕ} → RowEffect p q held e l l' → SameOpens l l'
+unfolding released
+same-rows (rows-kept n) = same-self
+same-rows (row-passed at r q i n k e) = same-self
+same-rows {l = l} (row-answered at r v q i n k e) = opens-holding l r v
+same-rows {l = l} (row-freed r n) = opens-freeing l r
+same-rows {p} {l = l} row-released = both (SameOpens l) (isOfContext p) (opens-freeing l (p .value)) same-self
+same-rows {l = l} (row-given r v q h n e) = opens-holding l r v
+same-rows {l = l} (row-copied r v h k e) = opens-holding l r v
 
-  abbrev Switches : Step → Switched → Type 0
-  Switches x u = Changes x (changingSwitch g u)
-
-  abbrev Stores : Step → Stored → Type 0
-  Stores x u = Changes x (changingStore g u)
-
-  abbrev Opens : Step → Opened → Type 0
-  Opens x u = Changes x (changingOpens g u)
-
-  -- a refusal changes nothing
-  change-refused : (x : Step) (r : Refusal) → Decides x (refusing r)
-  unfolding refusing
-  change-refused (Start n) r = stays same-self refl refl
-  change-refused (BeginRead x) r = stays same-self refl refl
-  change-refused (BeginWrite x v) r = stays same-self refl refl
-  change-refused (Deliver at choice) r = stays same-self refl refl
-  change-refused (Lose at) r = stays same-self refl refl
-  change-refused (Repeat at) r = stays same-self refl refl
-  change-refused (Advance a) r = stays same-self refl refl
-  change-refused (Replace number) r = stays same-self refl refl
-  change-refused (Tell a) r = stays same-self refl refl
-  change-refused (Remove a) r = stays same-self refl refl
-  change-refused (GiveUp o) r = stays same-self refl refl
-  change-refused (BeginContext x) r = stays same-self refl refl
-  change-refused Join r = stays same-self refl refl
-  change-refused Copy r = stays same-self refl refl
-
-  change-begin : (step : Step) (k : Kind) → noted step Done h ≡ begun (suc (begunCount h)) k ∷ h → openNoted step Done h l ≡ suc (begunCount h) ∷ l
-      → (isWrite : Bool) (x v : ℕ) → Opens step (beginOperation (g .opens) (g .held) isWrite x v)
-  unfolding beginOperation
-  change-begin step k notes opens isWrite x v =
-      let P : Opened → Type 0 = Opens step in
-      both P (leb limits.objects x) (change-refused step ObjectNumber)
-      (both P (leb limits.lastOperation (lastGiven (g .opens))) (change-refused step OperationsUsedUp)
-      (by-test P (roomToOpen (g .opens)) _ _
-      (λ room. both P (overfull (g .held) 0 1) (change-refused step WaitingFull) (begins k room same-self notes opens))
-      (λ full. change-refused step OpenFull)))
-
-  change-context : (x : Objects) → Opens (BeginContext x) (beginContext (g .opens) (g .held) x)
-  unfolding beginContext
-  change-context x =
-      let step : Step = BeginContext x in
-      let P : Opened → Type 0 = Opens step in
-      both P (areObjects (contextOf x))
-      (both P (areDifferent (contextOf x))
-      (both P (leb limits.lastOperation (lastGiven (g .opens))) (change-refused step OperationsUsedUp)
-      (by-test P (roomToOpen (g .opens)) _ _
-      (λ room. both P (overfull (g .held) 0 1) (change-refused step WaitingFull)
-      (both P (ltb (freeRow (g .opens)) limits.contexts)
-      (begins (reads (numbersOf (contextOf x))) room (opens-holding (opening (g .opens) (lastGiven (g .opens) + 1)) (freeRow (g .opens)) (contextOf x)) refl refl)
-      (change-refused step WaitingFull)))
-      (λ full. change-refused step OpenFull)))
-      (change-refused step SameObject))
-      (change-refused step ObjectNumber)
-
-  change-message : (at choice : ℕ) (msg : Message) → Changes (Deliver at choice) (deliveredMessage g at choice msg)
-  unfolding deliveredMessage stamping unstampedWrite switchRead stampedWrite directRead normalRead completion reply contextRead directContext normalContext contextReply droppingRow answeringContext refusing dropping passing
-  change-message at choice (UnstampedWrite p x v) =
-      both (Switches (Deliver at choice)) (allPermit (g .store) (numberIn (g .switch)))
-      (both (λ (d : Decision). Switches (Deliver at choice) (switched d (marked (g .switch) x))) (eqb (stampFor (g .switch) x) 0)
-      (stays same-self refl refl) (stays same-self refl refl)) (stays same-self refl refl)
-  change-message at choice (SwitchRead p x) =
-      let P : Decision → Type 0 = Decides (Deliver at choice) in
-      both P (directIn (g .switch)) (both P (eqb (lookedUp (g .switch) x) 0) (stays same-self refl refl) (stays same-self refl refl)) (stays same-self refl refl)
-  change-message at choice (StampedWrite r w) =
-      let P : Stored → Type 0 = Stores (Deliver at choice) in
-      both P (isMember (g .store) r)
-      (both P (accepts (g .store) (tableOf (g .store) r) (w .stamp))
-      (both P (isTail (g .store) r) (both P (overfull (g .held) 1 2) (stays same-self refl refl) (stays same-self refl refl)) (stays same-self refl refl))
-      (stays same-self refl refl)) (stays same-self refl refl)
-  change-message at choice (DirectRead r number t p x) =
-      let P : Decision → Type 0 = Decides (Deliver at choice) in
-      both P (isMember (g .store) r) (both P (answersDirect (g .store) (tableOf (g .store) r) x number t) (stays same-self refl refl) (stays same-self refl refl)) (stays same-self refl refl)
-  change-message at choice (NormalRead r p x c) =
-      let P : Decision → Type 0 = Decides (Deliver at choice) in
-      both P (isMember (g .store) r) (both P (isTail (g .store) r) (stays same-self refl refl) (stays same-self refl refl)) (stays same-self refl refl)
-  change-message at choice (Completion x t) = stays same-self refl refl
-  change-message at choice (Reply p v c f) =
-      by-test (Opens (Deliver at choice)) (isOpen (g .opens) p) _ _ (λ still. finishes p (v ∷ []) still same-self refl refl) (λ closed. stays same-self refl refl)
-  change-message at choice (ContextRead o r) =
-      let P : Opened → Type 0 = Opens (Deliver at choice) in
-      both P (isContext (contextAt (g .opens) r))
-      (both P (goesDirectly (g .switch) (contextAt (g .opens) r)) (stays same-self refl refl) (stays same-self refl refl)) (stays (opens-freeing (g .opens) r) refl refl)
-  change-message at choice (DirectContext q number t o r) =
-      let P : Opened → Type 0 = Opens (Deliver at choice) in
-      both P (isMember (g .store) q)
-      (both P (isContext (contextAt (g .opens) r))
-      (both P (answersContext (g .store) (tableOf (g .store) q) number t (contextAt (g .opens) r)) (stays (opens-holding (g .opens) r _) refl refl) (stays same-self refl refl))
-      (stays (opens-freeing (g .opens) r) refl refl)) (stays (opens-freeing (g .opens) r) refl refl)
-  change-message at choice (NormalContext q o r) =
-      let P : Opened → Type 0 = Opens (Deliver at choice) in
-      both P (isMember (g .store) q)
-      (both P (isContext (contextAt (g .opens) r))
-      (both P (isTail (g .store) q) (stays (opens-holding (g .opens) r _) refl refl) (stays same-self refl refl)) (stays (opens-freeing (g .opens) r) refl refl))
-      (stays (opens-freeing (g .opens) r) refl refl)
-  change-message at choice (ContextReply o r) =
-      let P : Opened → Type 0 = Opens (Deliver at choice) in
-      by-test P (isOpen (g .opens) o) _ _
-      (λ still. both P (isCount (contextAt (g .opens) r .count)) (finishes o _ still (opens-freeing (closing (g .opens) o) r) refl refl)
-      (stays (opens-freeing (g .opens) r) refl refl))
-      (λ closed. stays (opens-freeing (g .opens) r) refl refl)
-  change-message at choice Unknown = stays same-self refl refl
-
-  change-leaves : (x : Step) → noted x Done h ≡ h → openNoted x Done h l ≡ l → (p : Packet) (at : ℕ) → Opens x (leaving (g .opens) p at)
-  unfolding leaving released dropping
-  change-leaves x notes opens p at =
-      both (λ (k : List ℕ). Opens x (opened (dropping at) k)) (isOfContext p) (stays (opens-freeing (g .opens) (p .value)) notes opens) (stays same-self notes opens)
-
-  change-decided : (p : Packet) (x : Step) → Changes x (decided g p x)
-  unfolding decided delivered lost copied repeated givingUp dropping refusing
-  change-decided p (Start n) = stays same-self refl refl
-  change-decided p (BeginRead x) = change-begin (BeginRead x) (reads (x ∷ [])) refl refl false x 0
-  change-decided p (BeginWrite x v) = change-begin (BeginWrite x v) (writes x v) refl refl true x v
-  change-decided p (Deliver at choice) =
-      let P : Outcome → Type 0 = Changes (Deliver at choice) in
-      both P (leb (g .held) at) (stays same-self refl refl)
-      (both P (leb limits.objects (p .object)) (change-leaves (Deliver at choice) refl refl p at) (change-message at choice (messageOf p)))
-  change-decided p (Lose at) = both (Opens (Lose at)) (leb (g .held) at) (stays same-self refl refl) (change-leaves (Lose at) refl refl p at)
-  change-decided p (Repeat at) =
-      let P : Opened → Type 0 = Opens (Repeat at) in
-      both P (leb (g .held) at) (stays same-self refl refl)
-      (both P (isUnstamped p) (stays same-self refl refl)
-      (both P (overfull (g .held) 0 1) (stays same-self refl refl)
-      (both P (isOfContext p)
-      (both P (ltb (freeRow (g .opens)) limits.contexts) (stays (opens-holding (g .opens) (freeRow (g .opens)) _) refl refl) (stays same-self refl refl))
-      (stays same-self refl refl))))
-  change-decided p (Advance r) = stays same-self refl refl
-  change-decided p (Replace number) = stays same-self refl refl
-  change-decided p (Tell r) = stays same-self refl refl
-  change-decided p (Remove r) = stays same-self refl refl
-  change-decided p (GiveUp o) =
-      by-test (Opens (GiveUp o)) (isOpen (g .opens) o) _ _ (λ still. gives-up o still same-self refl refl) (λ closed. stays same-self refl refl)
-  change-decided p (BeginContext x) = change-context x
-  change-decided p Join = stays same-self refl refl
-  change-decided p Copy = stays same-self refl refl
-
-  change-in : (places : ℕ) (p : Packet) (x : Step) → Changes x (decidedIn places g p x)
-  unfolding decidedIn
-  change-in places p x =
-      both (Changes x) (isMalformed x) (change-refused x Format)
-      (both (Changes x) (ltb places limits.waiting) (change-refused x BufferTooShort) (change-decided p x))
+change-of : {k : Role} {a : Answer} {cells mid cells' : List ℕ} (h : History) (l : List ℕ) → OpensEffect k cells a mid → SameOpens mid cells'
+    → Change cells h l cells' (notedAs k a h) (openNotedAs k a h l)
+change-of h l (quiet q) s = stays s (quiet-same q h l .0) (quiet-same q h l .1)
+change-of h l (begins-read xs e room) s = begins (reads xs) room s (ap (λ (k : Role). notedAs k Done h) e) (ap (λ (k : Role). openNotedAs k Done h l) e)
+change-of h l (begins-write x v e room) s = begins (writes x v) room s (ap (λ (k : Role). notedAs k Done h) e) (ap (λ (k : Role). openNotedAs k Done h l) e)
+change-of h l (finishing at o v f e still) s = finishes o (v ∷ []) still s (ap (λ (k : Role). notedAs k (Finished o v f) h) e) (ap (λ (k : Role). openNotedAs k (Finished o v f) h l) e)
+change-of h l (finishing-context at o v e still) s =
+    finishes o (numbersOf v) still s (ap (λ (k : Role). notedAs k (FinishedContext o v) h) e) (ap (λ (k : Role). openNotedAs k (FinishedContext o v) h l) e)
+change-of h l (giving-up o e still) s = gives-up o still s (ap (λ (k : Role). notedAs k Done h) e) (ap (λ (k : Role). openNotedAs k Done h l) e)
 
 -- every step of a machine
 pub change : (m : Machine) (h : History) (l : List ℕ) (x : Step)
     → Change (m .opens) h l (after m x .opens) (noted x (answerTo m x) h) (openNoted x (answerTo m x) h l)
 unfolding after answerTo
-change m h l x = change-in (givenBy m) h l (length (m .waiting .packets)) (lookAt (m .waiting .packets) (positionOf x)) x
+change m h l x = let e = noted-as x (outcomeOf m x .decision .answer) h l in rw (e .0, e .1) (change-of h l (effect m x .opens) (same-rows (effect m x .rows)))
 
 -- ---- one number of a list is taken out
 
@@ -277,11 +158,11 @@ module _ {m : Machine} {h : History} {es : List Entry} (g : Good m h es) {l : Li
       let new : (o : ℕ) → o ∈ l → next ≡ o → ⊥ = λ o i e. omega (arith, e, next-is g, b .bounded o (b .opened o (s .kept o i) .0) .1) in
       subst (λ (o : ℕ). Same (opening (m .opens) next) (o ∷ l)) (next-is g)
       record {
-        counted = omega (arith, count-opening (m .opens) next (b .cells) room, s .counted);
-        listed = λ o e. elim (open-before (m .opens) next (b .cells) room o e) [ inl q ↦ here q | inr q ↦ there (s .listed o q) ];
+        counted = omega (arith, count-opening (m .opens) next (b .open-numbers .sized) room, s .counted);
+        listed = λ o e. elim (open-before (m .opens) next (b .open-numbers .sized) room o e) [ inl q ↦ here q | inr q ↦ there (s .listed o q) ];
         kept = λ o i. elim (cases-cons i) [
-          | inl q ↦ subst (λ (p : ℕ). isOpen (opening (m .opens) next) p ≡ true) (sym q) (opened-now (m .opens) next (b .cells) room)
-          | inr t ↦ still-open (m .opens) next (b .cells) room o (s .kept o t)
+          | inl q ↦ subst (λ (p : ℕ). isOpen (opening (m .opens) next) p ≡ true) (sym q) (opened-now (m .opens) next (b .open-numbers .sized) room)
+          | inr t ↦ still-open (m .opens) next (b .open-numbers .sized) room o (s .kept o t)
         ];
         distinct = (new, s .distinct);
       }
@@ -291,9 +172,9 @@ module _ {m : Machine} {h : History} {es : List Entry} (g : Good m h es) {l : Li
       let b = g .books in
       let i : o ∈ l = s .listed o was in
       record {
-        counted = omega (arith, count-closing (m .opens) o (b .cells) was, length-without l (indexOf l o) (in-index l o i), s .counted);
-        listed = λ p e. let t = open-after-closing (m .opens) o (b .cells) was (b .open-once) p e in stays-in o l i p (t .1) (s .listed p (t .0));
-        kept = λ p j. others-stay-open (m .opens) o (b .cells) was p (is-out o l i (s .distinct) p j) (s .kept p (was-in o l i p j));
+        counted = omega (arith, count-closing (m .opens) o (b .open-numbers .sized) was, length-without l (indexOf l o) (in-index l o i), s .counted);
+        listed = λ p e. let t = open-after-closing (m .opens) o (b .open-numbers .sized) was (b .open-numbers .once) p e in stays-in o l i p (t .1) (s .listed p (t .0));
+        kept = λ p j. others-stay-open (m .opens) o (b .open-numbers .sized) was p (is-out o l i (s .distinct) p j) (s .kept p (was-in o l i p j));
         distinct = distinct-out o l i (s .distinct);
       }
 
@@ -329,7 +210,7 @@ full-begin : (g : Given) (isWrite : Bool) (x v : ℕ) → x < limits.objects →
 unfolding beginOperation refusing
 full-begin g isWrite x v small left =
     rw (lt-leb limits.objects x small, lt-leb limits.lastOperation (lastGiven (g .opens)) left)
-    (by-test P (roomToOpen (g .opens)) _ _
+    (by-test P (roomToOpen (g .opens))
     (λ room. both P (overfull (g .held) 0 1)
     (not-full (g .opens) room (λ e. let z : _≡_ {A = ℕ} 0 1 = cc in omega arith))
     (not-full (g .opens) room (λ e. let z : _≡_ {A = ℕ} 0 1 = cc in omega arith)))
@@ -343,7 +224,7 @@ full-context : (g : Given) (x : Objects) → areObjects (contextOf x) ≡ true �
 unfolding beginContext refusing
 full-context g x known different left =
     rw (known, different, lt-leb limits.lastOperation (lastGiven (g .opens)) left)
-    (by-test P (roomToOpen (g .opens)) _ _
+    (by-test P (roomToOpen (g .opens))
     (λ room. both P (overfull (g .held) 0 1)
     (not-full (g .opens) room (λ e. let z : _≡_ {A = ℕ} 0 1 = cc in omega arith))
     (both P (ltb (freeRow (g .opens)) limits.contexts)
@@ -368,25 +249,25 @@ unfolding after
 length-reached m [] = refl
 length-reached m (x ∷ xs) = length-reached (after m x) xs ∙ length-edited (m .waiting) (outcomeOf m x .decision .edit)
 
--- FOR EVERY NUMBER OF REPLICAS FROM 1 TO 8, EVERY LENT ROW OF PLACES AND EVERY LIST OF STEPS, refused ones included
-module _ (n : ℕ) (low : 1 ≤ n) (high : n ≤ 8) (row : List Packet) (xs : List Step) where
-  pub same-run : Same (machineOf n row xs .opens) (openOf n row xs)
+-- FOR EVERY START THAT IS NOT REFUSED, EVERY LENT ROW OF PLACES AND EVERY LIST OF STEPS, refused ones included
+module _ (b : Setup) (starts : startRefused b ≡ false) (row : List Packet) (xs : List Step) where
+  pub same-run : Same (machineOf b row xs .opens) (openOf b row xs)
   unfolding started
-  same-run = same-reached (good-start n low high row) same-none xs
+  same-run = same-reached (good-start b starts row) same-none xs
 
   -- the machine has as many operations open as the steps and their answers tell
-  pub open-counted : openCount (machineOf n row xs .opens) ≡ length (openOf n row xs)
+  pub open-counted : openCount (machineOf b row xs .opens) ≡ length (openOf b row xs)
   open-counted = same-run .counted
 
   -- and it has the same ones open
-  pub open-exactly : (o : ℕ) → (isOpen (machineOf n row xs .opens) o ≡ true) ↔ (o ∈ openOf n row xs)
+  pub open-exactly : (o : ℕ) → (isOpen (machineOf b row xs .opens) o ≡ true) ↔ (o ∈ openOf b row xs)
   open-exactly o = (same-run .listed o, same-run .kept o)
 
   -- 'at most 64 are open': with 64 lent places, a begin that neither 1, 3 and 16 (its objects) nor 4 (the last operation is given) refuses is refused with 5 exactly when 64 are open
-  pub full-exactly : 64 ≤ length row → begunCount (historyOf n row xs) < limits.lastOperation → {step : Step} → Begins step
-      → (answerTo (machineOf n row xs) step ≡ Refused OpenFull) ↔ (length (openOf n row xs) ≡ 64)
+  pub full-exactly : 64 ≤ length row → begunCount (historyOf b row xs) < limits.lastOperation → {step : Step} → Begins step
+      → (answerTo (machineOf b row xs) step ≡ Refused OpenFull) ↔ (length (openOf b row xs) ≡ 64)
   unfolding answerTo started noneWait
-  full-exactly wide left {step} b =
-      let m = machineOf n row xs in
+  full-exactly wide left {step} begins-it =
+      let m = machineOf b row xs in
       subst (λ (k : ℕ). (answerTo m step ≡ Refused OpenFull) ↔ (k ≡ 64)) open-counted
-      (full-step m (rw (length-reached (started n row) xs) wide) (rw (good-run n low high row xs .books .numbered) left) b)
+      (full-step m (rw (length-reached (started b row) xs) wide) (rw (good-run b starts row xs .books .numbered) left) begins-it)

@@ -1,17 +1,17 @@
 -- What holds of every run besides its order: what the theorems of links assume, and that an operation finishes once at the most, and never after it was
 -- given up.
 use mathlib.Core.Path.{_≡_, refl, sym, ap, _∙_, subst}
-use mathlib.Core.Bool.{true}
+use mathlib.Core.Bool.{true, false}
 use mathlib.Core.List.{List, [], _∷_, _++_}
 use mathlib.Core.Logic.{inl, inr}
-use Prim.Native.Nat.{ℕ, _+_, _≤_}
+use Prim.Native.Nat.{ℕ, _+_, _≤_, _<_}
 use native.Mathlib.Omega.{arith}
 use lib.Dec.{ltb}
 use lib.ListN.{length}
+use Rattle.lists.proofs.Tests.{by-test, both}
 use Rattle.limits.specs as limits
 use Rattle.history.specs.History.{_∈_, History, begun, finished, Finished}
 use Rattle.history.specs.Linearizability.{Ahead}
-use Rattle.history.proofs.Tests.{by-test}
 use Rattle.history.proofs.Entries.{Entry, Unfinished}
 use Rattle.history.proofs.Growth.{begun-not-finished}
 use Rattle.operations.specs.{isOpen, lastGiven, roomToOpen, opening, closing}
@@ -22,47 +22,56 @@ use Rattle.chain.specs.{chainPlace, isMember, tableOf}
 use Rattle.replicas.specs.Links.{allLinks}
 use Rattle.replicas.proofs.Cells.{SizedStore}
 use Rattle.replicas.proofs.Descending.{Descending}
+use Rattle.joins.specs.{isJoining, newcomerNumber}
 use Rattle.replicas.proofs.Links.{links-together}
 use Rattle.waiting.specs.declared.Packet.{Packet}
+use Rattle.protocol.specs.declared.Setup.{Setup}
+use Rattle.protocol.specs.Starts.{startRefused}
 use Rattle.protocol.specs.declared.Answer.the-variants.{Done, Refused}
 use Rattle.protocol.specs.declared.Message.the-variants.{StampedWrite}
 use Rattle.protocol.specs.declared.Step.{Step}
 use Rattle.protocol.specs.declared.Step.the-variants.{GiveUp}
 use Rattle.protocol.specs.Decisions.{Outcome, Opened, changingOpens, refusing}
 use Rattle.protocol.specs.Steps.{Machine, givenBy, outcomeOf, givingUp, decided, isMalformed, decidedIn, answerTo, after, started}
+use Rattle.log.proofs.Places.{joining-set}
 use Rattle.log.proofs.Shows.{head-place}
 use Rattle.log.proofs.Tables.{at-head-first}
 use Rattle.linearizability.specs.Run.{noted, historyFrom, historyOf}
 use Rattle.linearizability.proofs.Waits.{messages}
-use Rattle.linearizability.proofs.Invariant.{EndsOnce, Good}
-use Rattle.linearizability.proofs.Deliveries.{both, unfinished-other}
+use Rattle.linearizability.proofs.Invariant.{chain-held, EndsOnce, Good}
+use Rattle.linearizability.proofs.Deliveries.{unfinished-other}
 use Rattle.linearizability.proofs.Steps.{unfinished-begin}
 use Rattle.linearizability.proofs.OneOrder.{good-after}
-use Rattle.linearizability.proofs.Limits.{reached, machineOf, good-run, linked-within}
+use Rattle.linearizability.proofs.Limits.{held-run, reached, machineOf, good-run, linked-within}
 use Rattle.linearizability.proofs.Opens.{Change, stays, begins, finishes, gives-up, change}
 
 -- ---- the store of a run
 
--- FOR EVERY NUMBER OF REPLICAS FROM 1 TO 8, EVERY LENT ROW OF PLACES AND EVERY LIST OF STEPS, refused ones included
-module _ (n : ℕ) (low : 1 ≤ n) (high : n ≤ 8) (row : List Packet) (xs : List Step) where
+-- FOR EVERY START THAT IS NOT REFUSED, EVERY LENT ROW OF PLACES AND EVERY LIST OF STEPS, refused ones included
+module _ (b : Setup) (starts : startRefused b ≡ false) (row : List Packet) (xs : List Step) where
   -- what crates/replicas/proofs/Links.antt assumes of a store: so its theorems are about the stores of runs
-  pub run-descending : Descending (machineOf n row xs .store)
-  run-descending = good-run n low high row xs .shown .falls
+  pub run-descending : Descending (machineOf b row xs .store)
+  run-descending = held-run b starts row xs .shown .falls
 
-  pub run-sized : SizedStore (machineOf n row xs .store)
-  run-sized = good-run n low high row xs .shown .sized
+  pub run-sized : SizedStore (machineOf b row xs .store)
+  run-sized = held-run b starts row xs .shown .sized
 
   -- and of a write that a live replica takes: it is at the head
-  pub accepted-at-head : (r : ℕ) (w : Write) → StampedWrite r w ∈ messages (machineOf n row xs .waiting) → isMember (machineOf n row xs .store) r ≡ true
-      → chainPlace (machineOf n row xs .store) (tableOf (machineOf n row xs .store) r) ≡ 0
+  pub accepted-at-head : (r : ℕ) (w : Write) → StampedWrite r w ∈ messages (machineOf b row xs .waiting) → isMember (machineOf b row xs .store) r ≡ true
+      → chainPlace (machineOf b row xs .store) (tableOf (machineOf b row xs .store) r) ≡ 0
   accepted-at-head r w i member =
-      let g = good-run n low high row xs in
-      let s = machineOf n row xs .store in
-      ap (chainPlace s) (at-head-first s r (g .posted (StampedWrite r w) i) member) ∙ head-place (g .shown)
+      let g = good-run b starts row xs in
+      let s = machineOf b row xs .store in
+      ap (chainPlace s) (at-head-first s r (g .posted (StampedWrite r w) i .0) member) ∙ head-place (chain-held (g .replicas) .shown)
+
+  -- nor is a write that waits for a newcomer: its number is below the newcomer's
+  pub below-newcomer : (r : ℕ) (w : Write) → StampedWrite r w ∈ messages (machineOf b row xs .waiting) → isJoining (machineOf b row xs .store) ≡ true
+      → r < newcomerNumber (machineOf b row xs .store)
+  below-newcomer r w i joins = good-run b starts row xs .posted (StampedWrite r w) i .0 .2 (joining-set (machineOf b row xs .store) joins)
 
   -- 'All links together hold at most 64 writes', counted link by link
-  pub links-within : allLinks (machineOf n row xs .store) ≤ 64
-  links-within = omega (arith, links-together (machineOf n row xs .store) run-descending, linked-within n low high row xs)
+  pub links-within : allLinks (machineOf b row xs .store) ≤ 64
+  links-within = omega (arith, links-together (machineOf b row xs .store) run-descending, linked-within b starts row xs)
 
 -- ---- an operation finishes once
 
@@ -77,9 +86,9 @@ ends-ahead (finished p ws ∷ h) u o us vs (inl a) = let same : o ≡ p = finish
 ends-ahead (finished p ws ∷ h) u o us vs (inr a) = ends-ahead h (u .1) o us vs a
 
 -- no operation finishes twice, with whatever values
-pub finished-once : (n : ℕ) → 1 ≤ n → n ≤ 8 → (row : List Packet) (xs : List Step) (o : ℕ) (us vs : List ℕ)
-    → Ahead (finished o us) (finished o vs) (historyOf n row xs) → ⊥
-finished-once n low high row xs = ends-ahead (historyOf n row xs) (good-run n low high row xs .books .ends-once)
+pub finished-once : (b : Setup) → startRefused b ≡ false → (row : List Packet) (xs : List Step) (o : ℕ) (us vs : List ℕ)
+    → Ahead (finished o us) (finished o vs) (historyOf b row xs) → ⊥
+finished-once b starts row xs = ends-ahead (historyOf b row xs) (good-run b starts row xs .books .ends-once)
 
 -- ---- an operation that is open no more
 
@@ -96,14 +105,14 @@ module _ {m : Machine} {h : History} {es : List Entry} (g : Good m h es) (o : �
   shut-opening : roomToOpen (m .opens) ≡ true → Shut (opening (m .opens) (lastGiven (m .opens) + 1)) o
   shut-opening room =
       let next = lastGiven (m .opens) + 1 in (
-        λ e. elim (open-before (m .opens) next (g .books .cells) room o e) [ inl q ↦ omega (arith, s .1) | inr q ↦ s .0 q ],
-        omega (arith, s .1, last-opening (m .opens) next (g .books .cells) room),
+        λ e. elim (open-before (m .opens) next (g .books .open-numbers .sized) room o e) [ inl q ↦ omega (arith, s .1) | inr q ↦ s .0 q ],
+        omega (arith, s .1, last-opening (m .opens) next (g .books .open-numbers .sized) room),
       )
 
   shut-closing : (p : ℕ) → isOpen (m .opens) p ≡ true → Shut (closing (m .opens) p) o
   shut-closing p still = (
-    λ e. s .0 (open-after-closing (m .opens) p (g .books .cells) still (g .books .open-once) o e .0),
-    rw (last-closing (m .opens) p (g .books .cells) still) (s .1),
+    λ e. s .0 (open-after-closing (m .opens) p (g .books .open-numbers .sized) still (g .books .open-numbers .once) o e .0),
+    rw (last-closing (m .opens) p (g .books .open-numbers .sized) still) (s .1),
   )
 
   shut-changed : {l cells' l' : List ℕ} {h' : History} → Change (m .opens) h l cells' h' l' → Shut cells' o × Unfinished h' o
@@ -130,7 +139,7 @@ unfolding decidedIn decided givingUp refusing
 gave-up m o =
     both P (isMalformed (GiveUp o)) refused
     (both P (ltb (length (m .waiting .packets)) limits.waiting) refused
-    (by-test (λ (u : Opened). P (changingOpens (givenBy m) u)) (isOpen (m .opens) o) _ _ (λ still e. (still, refl)) (λ closed. refused)))
+    (by-test (λ (u : Opened). P (changingOpens (givenBy m) u)) (isOpen (m .opens) o) (λ still e. (still, refl)) (λ closed. refused)))
   where
     P : Outcome → Type 0
     P = GaveUp (m .opens) o
@@ -144,18 +153,18 @@ history-append m h [] ys = refl
 history-append m h (x ∷ xs) ys = history-append (after m x) (noted x (answerTo m x) h) xs ys
 
 -- 'give up this operation; it stays unfinished for good': whatever steps came before, and whatever steps follow
-pub given-up-unfinished : (n : ℕ) → 1 ≤ n → n ≤ 8 → (row : List Packet) (xs ys : List Step) (o : ℕ) → answerTo (machineOf n row xs) (GiveUp o) ≡ Done
-    → Finished (historyOf n row (xs ++ GiveUp o ∷ ys)) o → ⊥
+pub given-up-unfinished : (b : Setup) → startRefused b ≡ false → (row : List Packet) (xs ys : List Step) (o : ℕ) → answerTo (machineOf b row xs) (GiveUp o) ≡ Done
+    → Finished (historyOf b row (xs ++ GiveUp o ∷ ys)) o → ⊥
 unfolding answerTo after
-given-up-unfinished n low high row xs ys o e =
-    let m = machineOf n row xs in
-    let g = good-run n low high row xs in
-    let b = g .books in
+given-up-unfinished b starts row xs ys o e =
+    let m = machineOf b row xs in
+    let g = good-run b starts row xs in
+    let books = g .books in
     let t = gave-up m o e in
-    let was = b .opened o (t .0) in
+    let was = books .opened o (t .0) in
     let shut : Shut (closing (m .opens) o) o = (
-      λ q. open-after-closing (m .opens) o (b .cells) (t .0) (b .open-once) o q .1 refl,
-      omega (arith, b .bounded o (was .0) .1, b .numbered, last-closing (m .opens) o (b .cells) (t .0)),
+      λ q. open-after-closing (m .opens) o (books .open-numbers .sized) (t .0) (books .open-numbers .once) o q .1 refl,
+      omega (arith, books .bounded o (was .0) .1, books .numbered, last-closing (m .opens) o (books .open-numbers .sized) (t .0)),
     ) in
-    rw (history-append (started n row) [] xs (GiveUp o ∷ ys))
+    rw (history-append (started b row) [] xs (GiveUp o ∷ ys))
     (shut-run (good-after g (GiveUp o)) o (rw (t .1) shut) (was .1) ys)

@@ -7,6 +7,7 @@ use Rattle.contexts.specs.{contextOf, numbersOf}
 use Rattle.waiting.specs.declared.Packet.{Packet}
 use Rattle.protocol.specs.declared.Answer.{Answer}
 use Rattle.protocol.specs.declared.Answer.the-variants.{Done, Finished, FinishedContext, Refused}
+use Rattle.protocol.specs.declared.Setup.{Setup}
 use Rattle.protocol.specs.declared.Step.{Step}
 use Rattle.protocol.specs.declared.Step.the-variants.{Start, BeginRead, BeginWrite, Deliver, Lose, Repeat, Advance, Replace, Tell, Remove, GiveUp, BeginContext, Join, Copy}
 use Rattle.protocol.specs.Steps.{Machine, answerTo, after, started}
@@ -33,7 +34,7 @@ ending (Refused r) h = h
 
 -- the history, one step later
 abbrev pub noted : Step → Answer → History → History
-noted (Start n) a h = h
+noted (Start b) a h = h
 noted (BeginRead x) a h = beginning (reads (x ∷ [])) a h
 noted (BeginWrite x v) a h = beginning (writes x v) a h
 noted (Deliver at choice) a h = ending a h
@@ -53,9 +54,9 @@ abbrev pub historyFrom : Machine → History → List Step → History
 historyFrom m h [] = h
 historyFrom m h (x ∷ xs) = historyFrom (after m x) (noted x (answerTo m x) h) xs
 
--- what happened in the run of these steps from an empty store of n replicas, whatever the lent places for packets hold
-abbrev pub historyOf : ℕ → List Packet → List Step → History
-historyOf n row xs = historyFrom (started n row) [] xs
+-- what happened in the run of these steps from the empty store that a start gives, whatever the lent places for packets hold
+abbrev pub historyOf : Setup → List Packet → List Step → History
+historyOf b row xs = historyFrom (started b row) [] xs
 
 -- ---- the open operations, of which there are at most 64 (refusal 5, 'OpenFull'): begun, not finished and not given up, the newest first
 
@@ -86,7 +87,7 @@ openGivenUp o (Refused r) l = l
 
 -- the open operations, one step later; h is the history before the step
 abbrev pub openNoted : Step → Answer → History → List ℕ → List ℕ
-openNoted (Start n) a h l = l
+openNoted (Start b) a h l = l
 openNoted (BeginRead x) a h l = openBegun a h l
 openNoted (BeginWrite x v) a h l = openBegun a h l
 openNoted (Deliver at choice) a h l = openEnded a l
@@ -105,6 +106,6 @@ abbrev pub openFrom : Machine → History → List ℕ → List Step → List �
 openFrom m h l [] = l
 openFrom m h l (x ∷ xs) = openFrom (after m x) (noted x (answerTo m x) h) (openNoted x (answerTo m x) h l) xs
 
--- the operations that are open after the run of these steps from an empty store of n replicas
-abbrev pub openOf : ℕ → List Packet → List Step → List ℕ
-openOf n row xs = openFrom (started n row) [] [] xs
+-- the operations that are open after the run of these steps from the empty store that a start gives
+abbrev pub openOf : Setup → List Packet → List Step → List ℕ
+openOf b row xs = openFrom (started b row) [] [] xs

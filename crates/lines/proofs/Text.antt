@@ -87,6 +87,22 @@ puts-then {b} {b'} {b″} {at} {p} {r} {w} {v} f g = record {
   long = g .long ∙ f .long;
 }
 
+-- how long parts are together
+abbrev pub together : List (List ℕ) → ℕ
+together [] = 0
+together (w ∷ ws) = length w + together ws
+
+-- a place that has room for parts, one after the other
+pub record Room (b : List ℕ) (at : ℕ) (ws : List (List ℕ)) : Type 0 where
+  pub room : at + together ws ≤ length b
+
+-- so it has room for the first, and behind the first for the others
+pub room-first : {b : List ℕ} {at : ℕ} {w : List ℕ} {ws : List (List ℕ)} → Room b at (w ∷ ws) → at + length w ≤ length b
+room-first h = omega (arith, h .room)
+
+pub room-then : {b b' : List ℕ} {at p : ℕ} {w : List ℕ} {ws : List (List ℕ)} → Puts b at w p b' → Room b at (w ∷ ws) → Room b' p ws
+room-then f h = record { room = omega (arith, f .after, f .long, h .room) }
+
 -- nothing is put
 pub puts-none : (b : List ℕ) (at : ℕ) → at ≤ length b → Puts b at [] at b
 puts-none b at h = record {

@@ -5,7 +5,7 @@ ghost use Prim.Native.Nat.{_+_, _≤_};
 ghost use lib.ListN.{length};
 ghost use lib.Dec.{leb};
 ghost use Rattle.protocol.specs.declared.Answer.the-variants.{Done, Finished, FinishedContext};
-ghost use Rattle.line_lengths.specs.Lines.{digits, decimal, longDecimal, okStart, freshnessEnd, finishEnd, laterValue, joined, contextEnd, noLine, lineOf};
+ghost use Rattle.line_lengths.specs.Lines.{digits, decimal, longDecimal, okStart, freshnessEnd, finishEnd, joined, contextEnd, noLine, lineOf};
 ghost use Rattle.lines.specs.Text.{putIn, Puts};
 use contexts::Context;
 use limits::Freshness;
@@ -133,31 +133,20 @@ fn put_finish(out: &mut [u8], at: usize, operation: u32, value: u32, freshness: 
     put_freshness(&mut *out, at, freshness)
 }
 
-// A comma and value i of n, counted from 0; nothing behind the last value.
-fn put_later(out: &mut [u8], at: usize, n: u32, i: u32, value: u32) -> usize
-    requires { ⌜ at + length (laterValue n i value) ≤ length (now out) ⌝ }
-    ensures { λ r. ⌜ Puts (now (out .entry)) at (laterValue n i value) r (now (out .exit)) ⌝ }
-{
-    if n <= i {
-        return at;
-    }
-    let at = put_byte(&mut *out, at, 44);
-    put_number(&mut *out, at, value)
-}
-
-// The values of a read of a whole context.
+// The values of a read of a whole context: the first, and each later one behind a comma.
 fn put_joined(out: &mut [u8], at: usize, v: Context) -> usize
     requires { ⌜ at + length (joined v) ≤ length (now out) ⌝ }
     ensures { λ r. ⌜ Puts (now (out .entry)) at (joined v) r (now (out .exit)) ⌝ }
 {
-    let at = put_number(&mut *out, at, v.first);
-    let at = put_later(&mut *out, at, v.count, 1, v.second);
-    let at = put_later(&mut *out, at, v.count, 2, v.third);
-    let at = put_later(&mut *out, at, v.count, 3, v.fourth);
-    let at = put_later(&mut *out, at, v.count, 4, v.fifth);
-    let at = put_later(&mut *out, at, v.count, 5, v.sixth);
-    let at = put_later(&mut *out, at, v.count, 6, v.seventh);
-    put_later(&mut *out, at, v.count, 7, v.eighth)
+    let n = contexts::size(v);
+    let mut end = put_number(&mut *out, at, v.first);
+    let mut i: usize = 1;
+    while i < n {
+        end = put_byte(&mut *out, end, 44);
+        end = put_number(&mut *out, end, contexts::place(v, i));
+        i += 1;
+    }
+    end
 }
 
 // The read of a whole context just finished, its values, and the line's end.

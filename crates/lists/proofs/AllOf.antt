@@ -5,9 +5,9 @@ use mathlib.Core.List.{List, [], _∷_, List·Memᴰ, List·Memᴰ·not-nil, Lis
 use mathlib.Core.Logic.{⊎-elim}
 use Prim.Native.Nat.{ℕ, zero, suc, _<_, suc-le-suc, zero-le}
 use native.Mathlib.Nat.{not-suc-le-zero, le-of-suc-le-suc}
-use native.Mathlib.Omega.{arith}
 use lib.ListN.{length, getD}
 use Rattle.lists.specs.{allOf}
+use Rattle.lists.proofs.Tests.{untrue}
 
 all-head : (t : ℕ → Bool) (q : ℕ) (l : List ℕ) → t q ≡ true → allOf t (q ∷ l) ≡ allOf t l
 unfolding allOf
@@ -39,4 +39,13 @@ all-member t (q ∷ l) r a m = go (t q) refl (λ rest tail. all-member t l r res
   where
     go : (b : Bool) → t q ≡ b → (allOf t l ≡ true → List·Memᴰ r l → t r ≡ true) → t r ≡ true
     go true e rest = ⊎-elim (λ s. ap t s ∙ e) (λ tail. rest (rw e at a) tail) (List·Memᴰ·cases-cons m)
-    go false e rest = absurd (let n : false ≡ true = rw e at a in let z : _≡_ {A = ℕ} 0 1 = cc in omega arith)
+    go false e rest = untrue (rw e at a)
+
+-- of one element
+pub all-one : (t : ℕ → Bool) (x : ℕ) → allOf t (x ∷ []) ≡ t x
+unfolding allOf
+all-one t x = go (t x)
+  where
+    go : (b : Bool) → cond b true false ≡ b
+    go true = refl
+    go false = refl

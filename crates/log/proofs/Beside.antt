@@ -1,21 +1,22 @@
 -- Req 04: what is written into the newcomer's table while it joins leaves the log shown as it was: no live replica has that table.
 use mathlib.Core.Path.{_≡_, refl, sym, _∙_, subst}
-use mathlib.Core.Bool.{Bool, true, false, cond}
+use mathlib.Core.Bool.{true}
 use mathlib.Core.List.{List, _∷_}
 use Prim.Native.Nat.{ℕ, zero, suc, _+_, _*_, _≤_, _<_}
 use native.Mathlib.Omega.{arith}
 use lib.Dec.{ltb}
+use Rattle.lists.proofs.Tests.{by-test, two-pass}
 use Rattle.store.specs.declared.Write.{Write}
 use Rattle.store.specs.{liveCount, members, orderAt, appliedBy, entryAt, tabled}
 use Rattle.chain.specs.{chainPlace, isLive, headOf, tailOf}
 use Rattle.replicas.specs.Links.{entries}
-use Rattle.joins.specs.{isJoining, copiesMade, newcomer, holdingOf, copiedObject, copied, isCopied, handingOn}
-use Rattle.chain.proofs.Members.{by-test, count-most, member-order, live-in, place-at, place-below}
+use Rattle.joins.specs.{isJoinSet, isJoining, copiesMade, newcomer, holdingOf, copiedObject, copied, isCopied, handingOn}
+use Rattle.chain.proofs.Members.{count-most, member-order, live-in, place-at, place-below}
 use Rattle.replicas.proofs.Cells.{Named, members-same, low-tabled, sized-tabled, highest-tabled, applied-tabled, entry-tabled, value-tabled-other, stamp-tabled-other}
 use Rattle.replicas.proofs.Descending.{descending-same}
 use Rattle.log.proofs.Holds.{Holds}
 use Rattle.log.proofs.Shows.{ShowsTo, shows-same, live-named}
-use Rattle.log.proofs.Places.{Places, SamePlaces, live-count-same, newcomer-same, places-same, places-self, places-tabled}
+use Rattle.log.proofs.Places.{Places, SamePlaces, joining-set, live-count-same, newcomer-same, places-same, places-self, places-tabled}
 use Rattle.log.proofs.Copies.{places-copied}
 
 -- a live replica's table is one of the eight
@@ -84,28 +85,24 @@ module _ {s : List ℕ} {log : List Write} {m n : ℕ} (k : ShowsTo s log m n) (
 
 -- ---- a write is handed on
 
-copied-joins : (s : List ℕ) (o : ℕ) → isCopied s o ≡ true → isJoining s ≡ true
+copied-joins : (s : List ℕ) (o : ℕ) → isCopied s o ≡ true → isJoinSet s ≡ true
 unfolding isCopied
-copied-joins s o = go (isJoining s) refl
-  where
-    go : (b : Bool) → isJoining s ≡ b → cond b (ltb o (64 * copiesMade s)) false ≡ true → isJoining s ≡ true
-    go true j e = j
-    go false j e = absurd (let z : _≡_ {A = ℕ} 0 1 = cc in omega (arith, z))
+copied-joins s o e = joining-set s (two-pass (isJoining s) (ltb o (64 * copiesMade s)) e .0)
 
 pub places-handing : (s : List ℕ) (w : Write) → SamePlaces s (handingOn s w)
 unfolding handingOn
-places-handing s w = by-test (SamePlaces s) (isCopied s (w .object)) _ _ (λ c. places-tabled s (newcomer s) w) (λ c. places-self)
+places-handing s w = by-test (SamePlaces s) (isCopied s (w .object)) (λ c. places-tabled s (newcomer s) w) (λ c. places-self)
 
 pub shows-handing : {s : List ℕ} {log : List Write} {m n : ℕ} → ShowsTo s log m n → Places s → (w : Write) → w .object < 1024 → ShowsTo (handingOn s w) log m n
 unfolding handingOn
 shows-handing {s} {log} {m} {n} k g w small =
-    by-test (λ (t : List ℕ). ShowsTo t log m n) (isCopied s (w .object)) _ _
+    by-test (λ (t : List ℕ). ShowsTo t log m n) (isCopied s (w .object))
     (λ c. shows-beside k g (g .joining (copied-joins s (w .object) c) .0) w small) (λ c. k)
 
 -- the entries of the log stay
 entry-handing : (s : List ℕ) (w : Write) (p : ℕ) → entryAt (handingOn s w) p ≡ entryAt s p
 unfolding handingOn
-entry-handing s w p = by-test (λ (t : List ℕ). entryAt t p ≡ entryAt s p) (isCopied s (w .object)) _ _ (λ c. entry-tabled s (newcomer s) w p) (λ c. refl)
+entry-handing s w p = by-test (λ (t : List ℕ). entryAt t p ≡ entryAt s p) (isCopied s (w .object)) (λ c. entry-tabled s (newcomer s) w p) (λ c. refl)
 
 pub entries-handing : (s : List ℕ) (w : Write) (p k : ℕ) → entries (handingOn s w) p k ≡ entries s p k
 unfolding entries

@@ -8,7 +8,7 @@ use native.Mathlib.Omega.{arith}
 use Rattle.limits.specs as limits
 use Rattle.store.specs.{highestOf, permittedBy, appliedBy, entryAt, valueAt, stampAt, tabled}
 use Rattle.chain.specs.{tailOf}
-use Rattle.joins.specs.{isJoining, copiesMade, newcomer, holdingOf, copiedObject, copied, oneCopy}
+use Rattle.joins.specs.{isJoinSet, copiesMade, newcomer, holdingOf, copiedObject, copied, oneCopy}
 use Rattle.replicas.proofs.Cells.{SizedStore, Named, sized-tabled, value-tabled-same, value-tabled-other, stamp-tabled-same, stamp-tabled-other, highest-tabled, permitted-tabled, applied-tabled, entry-tabled}
 use Rattle.log.proofs.Places.{SamePlaces, places-self, places-trans, places-tabled}
 
@@ -111,7 +111,7 @@ module _ (s : List ℕ) (q t first : ℕ) where
 -- ---- the objects copied so far
 
 abbrev pub CopiedSoFar : List ℕ → Type 0
-CopiedSoFar s = isJoining s ≡ true → (o : ℕ) → o < 64 * copiesMade s → Alike s (newcomer s) (tailOf s) o
+CopiedSoFar s = isJoinSet s ≡ true → (o : ℕ) → o < 64 * copiesMade s → Alike s (newcomer s) (tailOf s) o
 
 -- after one copy more, 64 objects more are alike
 pub copied-further : (s : List ℕ) → SizedStore s → Named (newcomer s) → Named (tailOf s) → (tailOf s ≡ newcomer s → ⊥) → copiesMade s < 16

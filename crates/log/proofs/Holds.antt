@@ -7,10 +7,11 @@ use native.Mathlib.Omega.{arith}
 use lib.Dec.{eqb}
 use lib.ListN.{length, getD, take}
 use lib.Seq.{take-suc}
+use Rattle.lists.proofs.Tests.{by-test}
 use Rattle.history.specs.History.{_∈_}
 use Rattle.history.proofs.Entries.{empty}
 use Rattle.history.proofs.Lists.{only-member, cases-append, in-take, in-getD}
-use Rattle.history.proofs.Tests.{by-test, eqb-true, eqb-false}
+use Rattle.history.proofs.Tests.{eqb-true, eqb-false}
 use Rattle.stamp.proofs.Laws.{larger-is}
 use Rattle.store.specs.declared.Write.{Write}
 use Rattle.store.specs.{highestOf, valueAt, stampAt}
@@ -54,7 +55,7 @@ holds-as t longer a b e f h = record {
 table-next : (f : Write → ℕ) (front : List Write) (w : Write) (x before now : ℕ) → before ≡ table f empty front x
     → (x ≡ w .object → now ≡ f w) → ((x ≡ w .object → ⊥) → now ≡ before) → now ≡ table f empty (front ++ w ∷ []) x
 table-next f front w x before now e own other =
-    by-test (λ z. now ≡ z) (eqb (w .object) x) (f w) (table f empty front x)
+    by-test (λ z. now ≡ z) (eqb (w .object) x) {x = f w} {y = table f empty front x}
     (λ q. own (sym (eqb-true (w .object) x q)))
     (λ q. other (λ p. eqb-false (w .object) x q (sym p)) ∙ e)
     ∙ sym (ap (λ t. t x) (table-append f empty front (w ∷ [])))

@@ -9,21 +9,22 @@ use lib.Dec.{eqb, ltb}
 use lib.ListN.{set}
 use lib.Seq.{getD-set-same}
 use borrow.Author.Tests.{ltb-false, eqb-true, eqb-false}
+use Rattle.lists.proofs.Tests.{by-test, both}
 use Rattle.store.specs.declared.Write.{Write}
 use Rattle.store.specs.{joinCell, liveCount, valueAt, stampAt, logged, tabled}
 use Rattle.chain.specs.{isLive, tailOf, permitting, emptyStore}
-use Rattle.joins.specs.{isJoining, copiesMade, newcomer, lastNumber, beginning, promoted, oneCopy, copying, isCopied, handingOn}
+use Rattle.joins.specs.{isJoinSet, isJoining, copiesMade, newcomer, lastNumber, beginning, promoted, oneCopy, copying, isCopied, handingOn}
 use Rattle.replicas.specs.Replicas.{applying}
-use Rattle.chain.proofs.Members.{by-test, tail-same}
+use Rattle.chain.proofs.Members.{tail-same}
 use Rattle.replicas.proofs.Cells.{SizedStore, Named, within, value-tabled-same, stamp-tabled-same, value-tabled-other, stamp-tabled-other}
 use Rattle.replicas.proofs.Cells.{sized-applying, value-applying-same, stamp-applying-same, value-applying-other, stamp-applying-other, value-logged, stamp-logged, value-permitting, stamp-permitting}
 use Rattle.log.proofs.Shows.{Shows, tail-live, tail-in}
 use Rattle.log.proofs.Kept.{SameReplicas, value-kept, stamp-kept, members-kept, shows-kept, replicas-join}
-use Rattle.log.proofs.Places.{Places, AtHead, SamePlaces, live-count-same, newcomer-same, members-as, joining-same, copies-same, places-order, places-same, places-applying, places-logged, places-permitting, places-trans, places-start, none-joins, order-join, at-head-order, at-head-same}
+use Rattle.log.proofs.Places.{last-number-same, Places, AtHead, SamePlaces, set-joining, live-count-same, newcomer-same, members-as, joining-same, copies-same, places-order, places-same, places-applying, places-logged, places-permitting, places-trans, places-start, none-joins, order-join, at-head-order, at-head-same}
 use Rattle.log.proofs.Joins.{places-beginning, copies-beginning}
 use Rattle.log.proofs.Copies.{SameAt, Alike, CopiedSoFar, places-copied, copied-further, copies-few}
 use Rattle.log.proofs.Beside.{newcomer-named, newcomer-apart, live-named-in, places-handing, shows-copied}
-use Rattle.log.proofs.Promotion.{joining-promoted, places-promoted, at-head-promoted}
+use Rattle.log.proofs.Promotion.{last-promoted, joining-promoted, places-promoted, at-head-promoted}
 use Rattle.log.proofs.Newcomer.{shows-promoted}
 
 pub record JoinInvariant (s : List ℕ) : Type 0 where
@@ -32,7 +33,7 @@ pub record JoinInvariant (s : List ℕ) : Type 0 where
   pub copied : CopiedSoFar s
 
 -- no join is under way in a store that says so
-pub nothing-copied : (s : List ℕ) → isJoining s ≡ false → CopiedSoFar s
+pub nothing-copied : (s : List ℕ) → isJoinSet s ≡ false → CopiedSoFar s
 nothing-copied s e j = absurd (let d : _≡_ {A = Bool} false true = sym e ∙ j in let z : _≡_ {A = ℕ} 0 1 = cc in omega (arith, z))
 
 pub joined-start : (n : ℕ) → n ≤ 8 → JoinInvariant (emptyStore n)
@@ -44,7 +45,7 @@ joined-start n h = record { places = places-start n h; copied = nothing-copied (
 abbrev BothSame : List ℕ → List ℕ → ℕ → Type 0
 BothSame s t o = SameAt s t (newcomer s) o × SameAt s t (tailOf s) o
 
-joined-kept : {s t : List ℕ} → SamePlaces s t → JoinInvariant s → (isJoining s ≡ true → (o : ℕ) → o < 1024 → BothSame s t o) → JoinInvariant t
+joined-kept : {s t : List ℕ} → SamePlaces s t → JoinInvariant s → (isJoinSet s ≡ true → (o : ℕ) → o < 1024 → BothSame s t o) → JoinInvariant t
 joined-kept {s} {t} e g same = record {
   places = places-same e (g .places);
   copied = λ j o h.
@@ -79,7 +80,7 @@ module _ (s : List ℕ) (r : ℕ) (w : Write) (g : JoinInvariant s) (live : isLi
   applied-same : (q o : ℕ) → Named q → o < 1024 → (q ≡ r → o ≡ w .object → ⊥) → SameAt s (applying s r w) q o
   applied-same q o m h d = (value-applying-other s r w q o m named h small d, stamp-applying-other s r w q o m named h small d)
 
-  at-newcomer : isJoining s ≡ true → (o : ℕ) → o < 1024 → SameAt s (applying s r w) (newcomer s) o
+  at-newcomer : isJoinSet s ≡ true → (o : ℕ) → o < 1024 → SameAt s (applying s r w) (newcomer s) o
   at-newcomer j o h =
       let free = g .places .joining j .0 in
       applied-same (newcomer s) o (newcomer-named (g .places) free) h (λ e p. newcomer-apart (g .places) free r live (sym e))
@@ -100,7 +101,7 @@ module _ (s : List ℕ) (r : ℕ) (w : Write) (g : JoinInvariant s) (live : isLi
     own = subst (λ (q : ℕ). (valueAt u q (w .object) ≡ w .value) × (stampAt u q (w .object) ≡ w .stamp)) last (value-applying-same s r w z, stamp-applying-same s r w z)
 
     -- an object that the write is not to
-    alike-before : isJoining s ≡ true → (o : ℕ) → o < 64 * copiesMade s → (o ≡ w .object → ⊥) → Alike u (newcomer s) (tailOf s) o
+    alike-before : isJoinSet s ≡ true → (o : ℕ) → o < 64 * copiesMade s → (o ≡ w .object → ⊥) → Alike u (newcomer s) (tailOf s) o
     alike-before j o low d =
         let h : o < 1024 = omega (arith, low, copies-few s) in
         let a = g .copied j o low in
@@ -109,7 +110,7 @@ module _ (s : List ℕ) (r : ℕ) (w : Write) (g : JoinInvariant s) (live : isLi
         (b .0 ∙ a .0 ∙ sym (c .0), b .1 ∙ a .1 ∙ sym (c .1))
 
     -- the write handed on
-    alike-handed : isJoining s ≡ true → (o : ℕ) → o < 64 * copiesMade s → Alike (tabled u (newcomer s) w) (newcomer s) (tailOf s) o
+    alike-handed : isJoinSet s ≡ true → (o : ℕ) → o < 64 * copiesMade s → Alike (tabled u (newcomer s) w) (newcomer s) (tailOf s) o
     alike-handed j o low =
         let q = newcomer s in
         let t = tailOf s in
@@ -132,14 +133,14 @@ module _ (s : List ℕ) (r : ℕ) (w : Write) (g : JoinInvariant s) (live : isLi
               )
         ]
 
-    handed-alike : isJoining s ≡ true → (o : ℕ) → o < 64 * copiesMade s → Alike (handingOn u w) (newcomer s) (tailOf s) o
+    handed-alike : isJoinSet s ≡ true → (o : ℕ) → o < 64 * copiesMade s → Alike (handingOn u w) (newcomer s) (tailOf s) o
     unfolding handingOn isCopied
     handed-alike j o low =
         let e = places-applying s r w in
-        let joins : isJoining u ≡ true = joining-same e ∙ j in
+        let joins : isJoining u ≡ true = set-joining u (omega (arith, live-count-same (e .same), g .places .joining j .0)) ∙ joining-same e ∙ j in
         let same : newcomer u ≡ newcomer s = newcomer-same (e .same) (g .places .joining j .0) in
         rw (joins, same, copies-same e)
-        (by-test (λ (t : List ℕ). Alike t (newcomer s) (tailOf s) o) (ltb (w .object) (64 * copiesMade s)) _ _
+        (by-test (λ (t : List ℕ). Alike t (newcomer s) (tailOf s) o) (ltb (w .object) (64 * copiesMade s))
         (λ c. alike-handed j o low)
         (λ c. alike-before j o low (λ p. omega (arith, p, low, ltb-false (w .object) (64 * copiesMade s) c))))
 
@@ -164,7 +165,7 @@ joined-beginning s z free few g = record {
 
 -- ---- a copy
 
-module _ {s : List ℕ} {log : List Write} {n : ℕ} (k : Shows s log n) (g : JoinInvariant s) (joins : isJoining s ≡ true) where
+module _ {s : List ℕ} {log : List Write} {n : ℕ} (k : Shows s log n) (g : JoinInvariant s) (joins : isJoinSet s ≡ true) where
   abbrev made : ℕ
   made = copiesMade s
 
@@ -197,7 +198,7 @@ module _ {s : List ℕ} {log : List Write} {n : ℕ} (k : Shows s log n) (g : Jo
   pub copy-free : liveCount one < 8
   copy-free = omega (arith, live-count-same (copy-places .same), free)
 
-  copy-joins : isJoining one ≡ true
+  copy-joins : isJoinSet one ≡ true
   copy-joins = joining-same copy-places ∙ joins
 
   -- a copy before the sixteenth
@@ -239,7 +240,7 @@ module _ {s : List ℕ} {log : List Write} {n : ℕ} (k : Shows s log n) (g : Jo
 
   -- the sixteenth
   module _ (all : made + 1 ≡ 16) where
-    -- 'when the newcomer becomes the tail its tables are the old tail's, object by object'
+    -- when the newcomer becomes the tail its tables are the old tail's, object by object
     pub all-alike : (o : ℕ) → o < 1024 → Alike one (newcomer one) (tailOf one) o
     all-alike o h = rw (copy-newcomer, copy-tail) (copy-alike o (omega (arith, h, all)))
 
@@ -262,15 +263,23 @@ module _ {s : List ℕ} {log : List Write} {n : ℕ} (k : Shows s log n) (g : Jo
   pub shows-copying : Shows (copying s) log n
   unfolding copying
   shows-copying =
-      by-test (λ (t : List ℕ). Shows t log n) (eqb (made + 1) 16) _ _
+      by-test (λ (t : List ℕ). Shows t log n) (eqb (made + 1) 16)
       (λ e. shows-last (eqb-true (made + 1) 16 e)) (λ e. shows-noted (few-left e))
 
   pub joined-copying : JoinInvariant (copying s)
   unfolding copying
-  joined-copying = by-test JoinInvariant (eqb (made + 1) 16) _ _ (λ e. joined-last (eqb-true (made + 1) 16 e)) (λ e. joined-noted (few-left e))
+  joined-copying = by-test JoinInvariant (eqb (made + 1) 16) (λ e. joined-last (eqb-true (made + 1) 16 e)) (λ e. joined-noted (few-left e))
+
+  -- no number is given by a copy
+  pub last-copying : lastNumber (copying s) ≡ lastNumber s
+  unfolding copying
+  last-copying =
+      both (λ (t : List ℕ). lastNumber t ≡ lastNumber s) (eqb (made + 1) 16)
+      (last-promoted one (copy-shows .sized) copy-free copy-joins (places-same copy-places (g .places)) ∙ last-number-same (copy-places .same))
+      (last-number-same (order-join one (made + 2)) ∙ last-number-same (copy-places .same))
 
   pub at-head-copying : (r : ℕ) → AtHead s r → AtHead (copying s) r
   unfolding copying
   at-head-copying r a =
-      by-test (λ (t : List ℕ). AtHead t r) (eqb (made + 1) 16) _ _
+      by-test (λ (t : List ℕ). AtHead t r) (eqb (made + 1) 16)
       (λ e. at-head-last (eqb-true (made + 1) 16 e) r a) (λ e. at-head-noted (few-left e) r a)

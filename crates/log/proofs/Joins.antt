@@ -12,7 +12,7 @@ use lib.Seq.{getD-set-same, getD-set-other}
 use borrow.Author.Tests.{leb-false}
 use Rattle.limits.specs as limits
 use Rattle.store.specs.{lastNumberCell, joinCell, liveCount, orderAt, numberAt}
-use Rattle.joins.specs.{isJoining, copiesMade, newcomer, newcomerNumber, lastNumber, isFull, beginning}
+use Rattle.joins.specs.{isJoinSet, copiesMade, newcomer, newcomerNumber, lastNumber, isFull, beginning}
 use Rattle.chain.specs.{chainPlace, isLive, removed}
 use Rattle.chain.proofs.Members.{count-most, place-below}
 use Rattle.replicas.proofs.Shape.{count-removed, cell-before, cell-behind, cell-last}
@@ -181,12 +181,12 @@ module _ (s : List ℕ) (t : ℕ) (z : SizedStore s) (live : isLive s t ≡ true
         )
       ]
 
-  last-left : lastNumber left ≡ lastNumber s
+  pub last-left : lastNumber left ≡ lastNumber s
   unfolding lastNumber
   last-left = ap (λ (n : ℕ). n % 256) (kept-removed s t lastNumberCell (omega arith))
 
-  pub joining-left : isJoining left ≡ isJoining s
-  unfolding isJoining
+  pub joining-left : isJoinSet left ≡ isJoinSet s
+  unfolding isJoinSet
   joining-left = ap (λ (n : ℕ). not (eqb n 0)) (kept-removed s t joinCell (omega arith))
 
   pub copies-left : copiesMade left ≡ copiesMade s

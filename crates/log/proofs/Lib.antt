@@ -15,3 +15,4 @@ pub mod Without
 pub mod Links
 pub mod NewTail
 pub mod Taken
+pub mod Removed

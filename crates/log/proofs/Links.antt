@@ -9,13 +9,14 @@ use native.Mathlib.Omega.{arith}
 use lib.Dec.{eqb}
 use lib.ListN.{set}
 use borrow.Author.Tests.{eqb-true}
+use Rattle.lists.proofs.Tests.{by-test}
 use Rattle.store.specs.declared.Write.{Write}
 use Rattle.store.specs.{joinCell, liveCount, members, rowOf, appliedBy, entryAt}
 use Rattle.chain.specs.{chainPlace, isLive, memberAt, tailOf}
 use Rattle.replicas.specs.Replicas.{pending}
 use Rattle.replicas.specs.Links.{entries, linkInto}
-use Rattle.joins.specs.{isJoining, copiesMade, newcomer, promoted, oneCopy, copying}
-use Rattle.chain.proofs.Members.{by-test, tail-is, member-in, in-live, place-at, place-below, below-live, member-same, place-same, live-same}
+use Rattle.joins.specs.{isJoinSet, copiesMade, newcomer, promoted, oneCopy, copying}
+use Rattle.chain.proofs.Members.{tail-is, member-in, in-live, place-at, place-below, below-live, member-same, place-same, live-same}
 use Rattle.replicas.proofs.Cells.{SizedStore, row-apart}
 use Rattle.replicas.proofs.Moves.{pending-head, pending-behind}
 use Rattle.replicas.proofs.Descending.{Descending, place-is}
@@ -41,7 +42,7 @@ pending-same s t r e before front own =
     ]
 
 -- two stores with the same members, which have applied the same of the same log
-links-same : (s t : List ℕ) → members t ≡ members s → ((r : ℕ) → appliedBy t r ≡ appliedBy s r) → ((p : ℕ) → entryAt t p ≡ entryAt s p) → (r : ℕ) → linkInto t r ≡ linkInto s r
+pub links-same : (s t : List ℕ) → members t ≡ members s → ((r : ℕ) → appliedBy t r ≡ appliedBy s r) → ((p : ℕ) → entryAt t p ≡ entryAt s p) → (r : ℕ) → linkInto t r ≡ linkInto s r
 links-same s t e a f r = go (isLive s r) refl
   where
     go : (b : Bool) → isLive s r ≡ b → linkInto t r ≡ linkInto s r
@@ -101,7 +102,7 @@ module _ {s : List ℕ} {log : List Write} {n : ℕ} (k : Shows s log n) (g : Pl
 
 -- ---- a copy
 
-module _ {s : List ℕ} {log : List Write} {n : ℕ} (k : Shows s log n) (g : JoinInvariant s) (joins : isJoining s ≡ true) where
+module _ {s : List ℕ} {log : List Write} {n : ℕ} (k : Shows s log n) (g : JoinInvariant s) (joins : isJoinSet s ≡ true) where
   link-copied : (r : ℕ) → linkInto (oneCopy s) r ≡ linkInto s r
   unfolding oneCopy
   link-copied r =
@@ -114,7 +115,7 @@ module _ {s : List ℕ} {log : List Write} {n : ℕ} (k : Shows s log n) (g : Jo
   pub link-copying : (r : ℕ) → isLive s r ≡ true → linkInto (copying s) r ≡ linkInto s r
   unfolding copying
   link-copying r live =
-      by-test (λ (t : List ℕ). linkInto t r ≡ linkInto s r) (eqb (copiesMade s + 1) 16) _ _
+      by-test (λ (t : List ℕ). linkInto t r ≡ linkInto s r) (eqb (copiesMade s + 1) 16)
       (λ e. link-promoted (copy-shows k g joins) (places-same (copy-places k g joins) (g .places)) (copy-free k g joins) (all-alike k g joins (eqb-true (copiesMade s + 1) 16 e)) r (live-copied r live) ∙ link-copied r)
       (λ e.
       let same = noted-replicas k g joins (few-left k g joins e) in

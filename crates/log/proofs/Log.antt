@@ -7,8 +7,8 @@ use Prim.Native.Nat.{ℕ, suc, _-_, _≤_, _<_}
 use native.Mathlib.Nat.{add-sub-of-le}
 use native.Mathlib.Omega.{arith}
 use lib.Dec.{eqb}
-use lib.ListN.{take, drop, take-append-drop}
-use lib.Seq.{take-add}
+use lib.ListN.{length, take, drop, take-append-drop}
+use lib.Seq.{take-add, take-length}
 use borrow.Author.Tests.{eqb-true, eq-eqb}
 use Rattle.history.specs.History.{_∈_, writes}
 use Rattle.history.proofs.Lists.{here, there, no-member, cases-cons}
@@ -150,3 +150,12 @@ same-value n m c x log r g k h =
     let up : Rising c mid = rising-from c (top 0 (take n log)) mid k (rising-back 0 (take n log) mid (subst (Rising 0) e (rising-take 0 m log r))) in
     let h' : table (λ w. w .stamp) (stamps (take n log)) mid x ≤ c = rw (← table-append, ← e) h in
     ap (λ (l : List Write). values l x) e ∙ ap (λ (t : Store). t x) (table-append (λ w. w .value) empty (take n log) mid) ∙ untouched c x (values (take n log)) (stamps (take n log)) mid up h'
+
+-- and a replica that has executed a front part of the visible writes shows the same value of x as all of them leave, if its part reaches a stamp c above which there is no
+-- write to x
+pub behind-value : (k c x : ℕ) (log : List Write) → Rising 0 log → k ≤ length log → c ≤ top 0 (take k log)
+    → ((w : Write) → w ∈ log → w .object ≡ x → w .stamp ≤ c) → values (take k log) x ≡ values log x
+behind-value k c x log up l reach low =
+    let all : take (length log) log ≡ log = take-length log in
+    let last : stamps log x ≤ c = elim (stamp-of empty log x) [ inl e ↦ omega (arith, e) | inr t ↦ omega (arith, t .3, low (t .0) (t .1) (t .2)) ] in
+    sym (ap (λ (t : List Write). values t x) (sym all) ∙ same-value k (length log) c x log up l reach (rw all last))

@@ -1,22 +1,23 @@
--- Req 04: 'when the newcomer becomes the tail its tables are the old tail's, object by object', with the old tail's highest stamp and permitted switch.
+-- Req 04: when the newcomer becomes the tail its tables are the old tail's, object by object, with the old tail's highest stamp and permitted switch.
 use mathlib.Core.Path.{_≡_, refl, ap, _∙_}
 use mathlib.Core.Bool.{true}
 use mathlib.Core.List.{List}
 use Prim.Native.Nat.{ℕ, _+_, _-_, _*_, _<_}
 use native.Mathlib.Omega.{arith}
 use Rattle.store.specs.declared.Write.{Write}
-use Rattle.store.specs.{liveCount, highestOf, permittedBy, valueAt, stampAt}
-use Rattle.chain.specs.{memberAt, tailOf}
-use Rattle.joins.specs.{isJoining, copiesMade, newcomer, promoted, oneCopy, copying}
+use Rattle.store.specs.{liveCount, numberAt, highestOf, permittedBy, valueAt, stampAt}
+use Rattle.chain.specs.{memberAt, tailOf, tailNumber}
+use Rattle.joins.specs.{isJoinSet, copiesMade, newcomer, newcomerNumber, promoted, oneCopy, copying}
 use Rattle.chain.proofs.Members.{tail-is}
+use Rattle.chain.proofs.Numbers.{tail-number-at}
 use Rattle.log.proofs.Shows.{Shows, tail-live}
-use Rattle.log.proofs.Places.{live-count-same}
+use Rattle.log.proofs.Places.{live-count-same, newcomer-same, newcomer-number-same, joining-same, places-same}
 use Rattle.log.proofs.Copies.{SameAt, copied-other, highest-copied, permitted-copied, copies-few}
 use Rattle.log.proofs.Beside.{live-named-in, newcomer-named, newcomer-apart}
-use Rattle.log.proofs.Promotion.{count-promoted, member-promoted-last, value-promoted, stamp-promoted, highest-promoted-own, permitted-promoted-own}
+use Rattle.log.proofs.Promotion.{number-promoted, count-promoted, member-promoted-last, value-promoted, stamp-promoted, highest-promoted-own, permitted-promoted-own}
 use Rattle.log.proofs.Joined.{JoinInvariant, free, copy-places, copy-shows, copy-free, copy-tail, all-alike}
 
-module _ {s : List ℕ} {log : List Write} {n : ℕ} (k : Shows s log n) (g : JoinInvariant s) (joins : isJoining s ≡ true) (all : copiesMade s + 1 ≡ 16) where
+module _ {s : List ℕ} {log : List Write} {n : ℕ} (k : Shows s log n) (g : JoinInvariant s) (joins : isJoinSet s ≡ true) (all : copiesMade s + 1 ≡ 16) where
   abbrev one : List ℕ
   one = oneCopy s
 
@@ -34,6 +35,20 @@ module _ {s : List ℕ} {log : List Write} {n : ℕ} (k : Shows s log n) (g : Jo
   pub live-more : liveCount (copying s) ≡ liveCount s + 1
   live-more =
       ap liveCount copying-is ∙ count-promoted one (copy-shows k g joins .sized) (copy-free k g joins) ∙ ap (λ (i : ℕ). i + 1) (live-count-same (copy-places k g joins .same))
+
+  -- by table and by number
+  pub tail-newcomer : tailOf (copying s) ≡ newcomer s
+  tail-newcomer = ap tailOf copying-is ∙ new-tail ∙ newcomer-same (copy-places k g joins .same) (free k g joins)
+
+  pub tail-newcomer-number : tailNumber (copying s) ≡ newcomerNumber s
+  unfolding newcomerNumber
+  tail-newcomer-number =
+      let z = copy-shows k g joins .sized in
+      let f = copy-free k g joins in
+      let more = count-promoted one z f in
+      let places = places-same (copy-places k g joins) (g .places) in
+      ap tailNumber copying-is ∙ tail-number-at (promoted one) (omega (arith, more)) ∙ ap (λ (i : ℕ). numberAt (promoted one) (i - 1)) more ∙ ap (numberAt (promoted one)) (omega arith) ∙
+      number-promoted one z f (joining-same (copy-places k g joins) ∙ joins) places (liveCount one) f ∙ newcomer-number-same (copy-places k g joins .same) (free k g joins)
 
   -- a copy leaves the old tail's tables
   old-tail : (o : ℕ) → o < 1024 → SameAt s one (tailOf s) o

@@ -1,4 +1,4 @@
--- Req 04: the newcomer becomes the tail. 'In a run, when the newcomer becomes the tail its tables are the old tail's, object by object': so the log is shown as before.
+-- Req 04: the newcomer becomes the tail. In a run its tables then are the old tail's, object by object: so the log is shown as before.
 use mathlib.Core.Path.{_≡_, sym, ap, _∙_, subst}
 use mathlib.Core.List.{List}
 use Prim.Native.Nat.{ℕ, _+_, _-_, _<_}

@@ -4,14 +4,16 @@ use mathlib.Core.Bool.{true, false, not}
 use mathlib.Core.List.{List}
 use Prim.Native.Nat.{ℕ, _+_, _-_, _*_, _/_, _%_, _≤_, _<_, min}
 use native.Mathlib.Omega.{arith}
-use lib.Dec.{eqb}
+use lib.Dec.{eqb, leb}
+use borrow.Author.Tests.{lt-leb}
 use lib.ListN.{getD, set}
 use lib.Seq.{getD-set-other}
+use Rattle.lists.proofs.Tests.{second-passes}
 use Rattle.store.specs.declared.Write.{Write}
 use Rattle.store.specs.{lastNumberCell, joinCell, liveCount, orderAt, numberAt, members, logged, tabled}
 use Rattle.chain.specs.{permitting, emptyStore}
 use Rattle.replicas.specs.Replicas.{applying}
-use Rattle.joins.specs.{isJoining, copiesMade, newcomer, newcomerNumber, lastNumber}
+use Rattle.joins.specs.{isJoinSet, isJoining, copiesMade, newcomer, newcomerNumber, lastNumber}
 use Rattle.chain.proofs.Members.{count-most}
 use Rattle.replicas.proofs.Cells.{Named, members-same, order-applying, behind-applying, order-logged, behind-logged, order-permitting, behind-permitting, low-tabled, behind-tabled}
 use Rattle.replicas.proofs.Shape.{count-empty, cell-empty, last-empty, join-empty}
@@ -25,11 +27,20 @@ pub record Places (s : List ℕ) : Type 0 where
   pub apart : (p q : ℕ) → p < 8 → q < 8 → orderAt s p ≡ orderAt s q → p ≡ q
   pub given : (p : ℕ) → p < liveCount s → numberAt s p ≤ lastNumber s
   pub numbers-apart : (p q : ℕ) → p < liveCount s → q < liveCount s → numberAt s p ≡ numberAt s q → p ≡ q
-  pub joining : isJoining s ≡ true → JoiningPlace s
+  pub joining : isJoinSet s ≡ true → JoiningPlace s
+
+-- a join that is under way is set; and the other way round where there is a place for the newcomer
+pub joining-set : (s : List ℕ) → isJoining s ≡ true → isJoinSet s ≡ true
+unfolding isJoining
+joining-set s e = second-passes (leb 8 (liveCount s)) (isJoinSet s) e .1
+
+pub set-joining : (s : List ℕ) → liveCount s < 8 → isJoining s ≡ isJoinSet s
+unfolding isJoining
+set-joining s h = rw (lt-leb 8 (liveCount s) h) refl
 
 -- a write that waits for the replica with number r: r is the head's number, or that of a replica that is gone; so it is a number that was given, and not the newcomer's
 abbrev pub AtHead : List ℕ → ℕ → Type 0
-AtHead s r = ((p : ℕ) → p < liveCount s → numberAt s p ≡ r → p ≡ 0) × (r ≤ lastNumber s) × (isJoining s ≡ true → r < newcomerNumber s)
+AtHead s r = ((p : ℕ) → p < liveCount s → numberAt s p ≡ r → p ≡ 0) × (r ≤ lastNumber s) × (isJoinSet s ≡ true → r < newcomerNumber s)
 
 -- the head's number is such a number
 pub at-head-now : (s : List ℕ) → Places s → 0 < liveCount s → AtHead s (numberAt s 0)
@@ -75,7 +86,7 @@ module _ {s t : List ℕ} (e : SameOrder s t) where
   few p h = omega (arith, count-most t)
 
   -- the places of the second, where no join is under way that is not under way in the first
-  pub places-order : (isJoining t ≡ true → isJoining s ≡ true) → Places s → Places t
+  pub places-order : (isJoinSet t ≡ true → isJoinSet s ≡ true) → Places s → Places t
   places-order still g = record {
     named = λ p h. rw (order-at-same p h) (g .named p h);
     apart = λ p q a b d. g .apart p q a b (sym (order-at-same p a) ∙ d ∙ order-at-same q b);
@@ -91,7 +102,7 @@ module _ {s t : List ℕ} (e : SameOrder s t) where
   }
 
   -- and the writes that wait for the head
-  pub at-head-order : (isJoining t ≡ true → isJoining s ≡ true) → Places s → (r : ℕ) → AtHead s r → AtHead t r
+  pub at-head-order : (isJoinSet t ≡ true → isJoinSet s ≡ true) → Places s → (r : ℕ) → AtHead s r → AtHead t r
   at-head-order still g r a = (
     λ p h d. a .0 p (within p h) (sym (number-at-same p (few p h)) ∙ d),
     rw last-number-same (a .1),
@@ -104,8 +115,8 @@ pub record SamePlaces (s t : List ℕ) : Type 0 where
   pub join : getD t joinCell 0 ≡ getD s joinCell 0
 
 module _ {s t : List ℕ} (e : SamePlaces s t) where
-  pub joining-same : isJoining t ≡ isJoining s
-  unfolding isJoining
+  pub joining-same : isJoinSet t ≡ isJoinSet s
+  unfolding isJoinSet
   joining-same = ap (λ (n : ℕ). not (eqb n 0)) (e .join)
 
   pub copies-same : copiesMade t ≡ copiesMade s
@@ -166,8 +177,8 @@ last-start : (n : ℕ) → n ≤ 8 → lastNumber (emptyStore n) ≡ n
 unfolding lastNumber
 last-start n few = ap (λ (k : ℕ). k % 256) (last-empty n) ∙ omega (arith, few)
 
-pub none-joins : (n : ℕ) → isJoining (emptyStore n) ≡ false
-unfolding isJoining
+pub none-joins : (n : ℕ) → isJoinSet (emptyStore n) ≡ false
+unfolding isJoinSet
 none-joins n = ap (λ (k : ℕ). not (eqb k 0)) (join-empty n)
 
 not-joining : false ≡ true → ⊥
@@ -189,11 +200,11 @@ places-start n most = record {
 
     numbered : (p : ℕ) → p < 8 → getD (emptyStore n) (1 + p) 0 / 256 % 256 ≡ p + 1
     numbered p h =
-        let high : 257 * (p + 1) / 256 ≡ p + 1 = omega (arith, h) in
+        let high : (256 * (p + 1) + (p + 1)) / 256 ≡ p + 1 = omega (arith, h) in
         ap (λ (k : ℕ). k / 256 % 256) (cell-empty n p h) ∙ ap (λ (k : ℕ). k % 256) high ∙ omega (arith, h)
 
     last : lastNumber (emptyStore n) ≡ n
     last = last-start n most
 
-    none : isJoining (emptyStore n) ≡ true → ⊥
+    none : isJoinSet (emptyStore n) ≡ true → ⊥
     none j = not-joining (sym (none-joins n) ∙ j)

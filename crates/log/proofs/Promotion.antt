@@ -13,7 +13,7 @@ use Rattle.store.specs.{appliedCell, permitCell, highestCell, liveCell, lastNum
 use Rattle.stamp.specs.Stamps.{stampIn, setStamp}
 use Rattle.stamp.proofs.Cells.{length-stamp, stamp-reads, stamp-same, cell-beside, stamp-kept}
 use Rattle.chain.specs.{memberAt, tailOf, permitting}
-use Rattle.joins.specs.{isJoining, newcomer, newcomerNumber, lastNumber, promoted}
+use Rattle.joins.specs.{isJoinSet, newcomer, newcomerNumber, lastNumber, promoted}
 use Rattle.chain.proofs.Members.{count-most, member-order}
 use Rattle.replicas.proofs.Cells.{SizedStore, row-below, within, value-from, value-below, stamp-is, stamp-over, entries-kept}
 use Rattle.log.proofs.Places.{Places, AtHead}
@@ -159,18 +159,18 @@ module _ (s : List ℕ) (z : SizedStore s) (free : liveCount s < 8) where
 
 -- ---- the places
 
-module _ (s : List ℕ) (z : SizedStore s) (free : liveCount s < 8) (joins : isJoining s ≡ true) (g : Places s) where
-  last-promoted : lastNumber (promoted s) ≡ lastNumber s
+module _ (s : List ℕ) (z : SizedStore s) (free : liveCount s < 8) (joins : isJoinSet s ≡ true) (g : Places s) where
+  pub last-promoted : lastNumber (promoted s) ≡ lastNumber s
   unfolding lastNumber
   last-promoted = ap (λ (n : ℕ). n % 256) (tables-kept-promoted s z free lastNumberCell (omega arith) (omega arith))
 
-  number-promoted : (p : ℕ) → p < 8 → numberAt (promoted s) p ≡ numberAt s p
+  pub number-promoted : (p : ℕ) → p < 8 → numberAt (promoted s) p ≡ numberAt s p
   unfolding numberAt
   number-promoted p h = ap (λ (n : ℕ). n / 256 % 256) (order-kept-promoted s z free (1 + p) (omega arith) (omega (arith, h)))
 
   -- no join is under way any more
-  pub joining-promoted : isJoining (promoted s) ≡ false
-  unfolding isJoining
+  pub joining-promoted : isJoinSet (promoted s) ≡ false
+  unfolding isJoinSet
   joining-promoted =
       ap (λ (n : ℕ). not (eqb n 0))
       (ap (λ (l : List ℕ). getD l joinCell 0) (promoted-is s z free) ∙
@@ -201,7 +201,7 @@ module _ (s : List ℕ) (z : SizedStore s) (free : liveCount s < 8) (joins : isJ
   apart-before p q (inr a) (inl b) d = absurd (omega (arith, d, number-below q b, ap (numberAt s) a))
   apart-before p q (inr a) (inr b) d = a ∙ sym b
 
-  no-join : isJoining (promoted s) ≡ true → ⊥
+  no-join : isJoinSet (promoted s) ≡ true → ⊥
   no-join j = let z : _≡_ {A = Bool} false true = sym joining-promoted ∙ j in let n : _≡_ {A = ℕ} 0 1 = cc in omega (arith, n)
 
   pub places-promoted : Places (promoted s)

@@ -8,19 +8,20 @@ use lib.Dec.{eqb}
 use lib.ListN.{set}
 use lib.Seq.{getD-set-same}
 use borrow.Author.Tests.{eqb-false}
+use Rattle.lists.proofs.Tests.{by-test, both}
 use Rattle.store.specs.declared.Write.{Write}
 use Rattle.store.specs.{joinCell, liveCount}
 use Rattle.chain.specs.{chainPlace, isLive, memberAt, tailOf, placeOf, isMember, isTail, tableOf, removed}
-use Rattle.joins.specs.{isJoining, newcomer, joinEnded, without}
-use Rattle.chain.proofs.Members.{by-test, live-same, place-same, count-same, tail-is}
+use Rattle.joins.specs.{lastNumber, isJoinSet, newcomer, joinEnded, without}
+use Rattle.chain.proofs.Members.{live-same, place-same, count-same, tail-is}
 use Rattle.chain.proofs.Numbers.{member-below, table-live}
 use Rattle.replicas.proofs.Cells.{SizedStore, within, value-removed, stamp-removed}
 use Rattle.replicas.proofs.Shape.{count-removed, member-removed-behind}
 use Rattle.log.proofs.Shows.{Shows}
 use Rattle.log.proofs.Kept.{SameReplicas, members-kept, shows-kept, replicas-join}
-use Rattle.log.proofs.Places.{AtHead, places-order, order-join, at-head-order}
+use Rattle.log.proofs.Places.{last-number-same, AtHead, places-order, order-join, at-head-order}
 use Rattle.log.proofs.Tables.{table-place}
-use Rattle.log.proofs.Joins.{joining-left, copies-left, newcomer-left, places-removed, at-head-removed}
+use Rattle.log.proofs.Joins.{last-left, joining-left, copies-left, newcomer-left, places-removed, at-head-removed}
 use Rattle.log.proofs.Copies.{CopiedSoFar}
 use Rattle.log.proofs.Joined.{JoinInvariant, nothing-copied}
 
@@ -33,8 +34,8 @@ tail-left s x z live low =
     ap (memberAt s) (omega (arith, low)) ∙ sym (tail-is s)
 
 -- the join ends
-ended-none : (s : List ℕ) → SizedStore s → isJoining (set s joinCell 0) ≡ false
-unfolding isJoining
+ended-none : (s : List ℕ) → SizedStore s → isJoinSet (set s joinCell 0) ≡ false
+unfolding isJoinSet
 ended-none s z = ap (λ (n : ℕ). not (eqb n 0)) (getD-set-same s joinCell 0 0 (within s joinCell z (omega arith)))
 
 replicas-self : (s : List ℕ) → SizedStore s → SameReplicas s s
@@ -51,15 +52,15 @@ module _ {s : List ℕ} {log : List Write} {n : ℕ} (k : Shows s log n) (g : Jo
   z : SizedStore s
   z = k .sized
 
-  replicas-ended : SameReplicas s ended
+  pub replicas-ended : SameReplicas s ended
   unfolding joinEnded
-  replicas-ended = by-test (SameReplicas s) (isTail s r) _ _ (λ e. replicas-join s 0 z) (λ e. replicas-self s z)
+  replicas-ended = by-test (SameReplicas s) (isTail s r) (λ e. replicas-join s 0 z) (λ e. replicas-self s z)
 
   pub shows-ended : Shows ended log n
   shows-ended = shows-kept replicas-ended k
 
   -- its place
-  ended-place : chainPlace ended table ≡ placeOf s r
+  pub ended-place : chainPlace ended table ≡ placeOf s r
   ended-place = place-same ended s (members-kept replicas-ended) table ∙ table-place s r (k .falls) member
 
   pub ended-live : isLive ended table ≡ true
@@ -90,7 +91,7 @@ module _ {s : List ℕ} {log : List Write} {n : ℕ} (k : Shows s log n) (g : Jo
   abbrev left : List ℕ
   left = removed ended (chainPlace ended table)
 
-  none-ended : isTail s r ≡ true → isJoining ended ≡ false
+  none-ended : isTail s r ≡ true → isJoinSet ended ≡ false
   unfolding joinEnded
   none-ended e = rw e (ended-none s z)
 
@@ -102,7 +103,7 @@ module _ {s : List ℕ} {log : List Write} {n : ℕ} (k : Shows s log n) (g : Jo
       (joining-left ended table (shows-ended .sized) ended-live ∙ none-ended e)
   copied-left false e = λ j o h.
       let size = shows-ended .sized in
-      let was : isJoining ended ≡ true = sym (joining-left ended table size ended-live) ∙ j in
+      let was : isJoinSet ended ≡ true = sym (joining-left ended table size ended-live) ∙ j in
       let inv = joined-ended false e in
       let low : chainPlace ended table + 1 < liveCount ended =
       omega (arith, ended-place, ended-count, member-below s r member, eqb-false (placeOf s r + 1) (liveCount s) e) in
@@ -111,6 +112,14 @@ module _ {s : List ℕ} {log : List Write} {n : ℕ} (k : Shows s log n) (g : Jo
         value-removed ended table (newcomer ended) o ∙ a .0 ∙ sym (value-removed ended table (tailOf ended) o),
         stamp-removed ended table (newcomer ended) o ∙ a .1 ∙ sym (stamp-removed ended table (tailOf ended) o),
       )
+
+  -- nor by a removal
+  last-ended : lastNumber ended ≡ lastNumber s
+  unfolding joinEnded
+  last-ended = both (λ (t : List ℕ). lastNumber t ≡ lastNumber s) (isTail s r) (last-number-same (order-join s 0)) refl
+
+  pub last-without : lastNumber (without s r) ≡ lastNumber s
+  last-without = ap lastNumber without-is ∙ last-left ended table (shows-ended .sized) ended-live ∙ last-ended
 
   pub joined-without : JoinInvariant (without s r)
   joined-without = rw without-is (record {

@@ -2,14 +2,15 @@
 // packets) and the count of those that wait.
 ghost use mathlib.Core.Path.{_≡_};
 ghost use Rattle.protocol.specs.Decisions.{given};
-ghost use Rattle.protocol.specs.Steps.{machine, startRefused, startAnswer, startSwitch, startStore, startOpens, positionOf, decidedIn, steppedBy, after};
+ghost use Rattle.protocol.specs.Starts.{startAnswer};
+ghost use Rattle.protocol.specs.Steps.{machine, newStore, startSwitch, startStore, startOpens, positionOf, decidedIn, steppedBy, after};
 ghost use Rattle.machine.specs.{decidedWith};
 ghost use Rattle.waiting.specs.Waiting.{waitingList, heldIn};
-use limits::REPLICAS;
 use protocol::Answer;
-use protocol::Refusal;
+use protocol::Setup;
 use protocol::Step;
 use protocol::Stepped;
+use protocol::setups;
 use switch::Switch;
 use waiting::Edit;
 use waiting::Packet;
@@ -21,35 +22,35 @@ struct Decided {
     marks: u32,
 }
 
-// Whether a start with n replicas is refused, by 2.
-pub fn start_refused(n: u8) -> bool
-    ensures { λ r. ⌜ r ≡ startRefused n ⌝ }
+// The replicas of a start: nothing written.
+fn clear_store(store: &mut [u32; store::CELLS], b: Setup)
+    ensures { λ _. ⌜ now (store .exit) ≡ newStore b ⌝ }
 {
-    if n == 0 {
-        return true;
+    match b {
+        Setup::Missing => chain::clear(&mut *store, 0),
+        Setup::Chain(n) => chain::clear(&mut *store, n),
     }
-    REPLICAS < (n as usize)
 }
 
-// A start with n replicas: nothing written, no operation open, and none of the caller's packets waits. After a refusal all that is lent holds what it held.
+// A start: nothing written, no operation open, and none of the caller's packets waits. After a refusal all that is lent holds what it held.
 pub fn start(
-    n: u8,
+    b: Setup,
     switch: &mut [u32; switch::CELLS],
     store: &mut [u32; store::CELLS],
     opens: &mut [u32; operations::CELLS],
 ) -> Answer
-    ensures { λ r. ⌜ (r ≡ startAnswer n)
-        × (now (switch .exit) ≡ startSwitch n (now (switch .entry)))
-        × (now (store .exit) ≡ startStore n (now (store .entry)))
-        × (now (opens .exit) ≡ startOpens n (now (opens .entry))) ⌝ }
+    ensures { λ r. ⌜ (r ≡ startAnswer b)
+        × (now (switch .exit) ≡ startSwitch b (now (switch .entry)))
+        × (now (store .exit) ≡ startStore b (now (store .entry)))
+        × (now (opens .exit) ≡ startOpens b (now (opens .entry))) ⌝ }
 {
-    if start_refused(n) {
-        return Answer::Refused(Refusal::Replicas);
+    if setups::is_refused(b) {
+        return setups::answer(b);
     }
     switch::cells::store(&mut *switch, Switch::new(1));
-    chain::clear(&mut *store, n);
+    clear_store(&mut *store, b);
     operations::clear(&mut *opens);
-    Answer::Done
+    setups::answer(b)
 }
 
 fn position(x: Step) -> usize
@@ -59,17 +60,7 @@ fn position(x: Step) -> usize
         Step::Deliver(at, choice) => at as usize,
         Step::Lose(at) => at as usize,
         Step::Repeat(at) => at as usize,
-        Step::Start(n) => 0,
-        Step::BeginRead(x) => 0,
-        Step::BeginWrite(x, v) => 0,
-        Step::Advance(r) => 0,
-        Step::Replace(number) => 0,
-        Step::Tell(r) => 0,
-        Step::Remove(r) => 0,
-        Step::GiveUp(o) => 0,
-        Step::BeginContext(x) => 0,
-        Step::Join => 0,
-        Step::Copy => 0,
+        _ => 0,
     }
 }
 

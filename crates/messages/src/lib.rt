@@ -1,6 +1,7 @@
 // Packets and the messages that they hold.
 ghost use mathlib.Core.Path.{_≡_};
-ghost use Rattle.protocol.specs.Messages.{packetOf, contextMessage, messageOf, isUnstamped, isOfContext, inRow, writeOf};
+ghost use Rattle.protocol.specs.Messages.{packetOf, replyTo, completionOf, contextMessage, messageOf, isUnstamped, isOfContext, isContextReply, inRow, writeOf};
+use limits::HeldFreshness;
 use limits::Number;
 use limits::Object;
 use limits::Operation;
@@ -8,8 +9,11 @@ use limits::Replica;
 use limits::Stamp;
 use limits::Value;
 use protocol::Message;
+use protocol::answers::NONE;
 use store::Write;
 use waiting::Packet;
+
+const CONTEXT_REPLY: u8 = 11;
 
 fn packet(
     kind: u8,
@@ -51,6 +55,19 @@ pub fn packet_of(m: Message) -> Packet
         Message::ContextReply(o, r) => packet(11, 0, 0, o, 0, r, 0),
         Message::Unknown => Packet::blank(),
     }
+}
+
+// The reply and the completion of a write that the tail has applied.
+pub fn reply_to(w: Write) -> Packet
+    ensures { λ r. ⌜ r ≡ replyTo w ⌝ }
+{
+    packet_of(Message::Reply(w.operation, w.value, 0, NONE as HeldFreshness))
+}
+
+pub fn completion_of(w: Write) -> Packet
+    ensures { λ r. ⌜ r ≡ completionOf w ⌝ }
+{
+    packet_of(Message::Completion(w.object, w.stamp))
 }
 
 fn write_of(p: Packet) -> Write
@@ -125,6 +142,12 @@ pub fn is_of_context(p: Packet) -> bool
         return false;
     }
     p.kind <= 11
+}
+
+pub fn is_context_reply(p: Packet) -> bool
+    ensures { λ r. ⌜ r ≡ isContextReply p ⌝ }
+{
+    p.kind == CONTEXT_REPLY
 }
 
 // The packet with another row.

@@ -1,14 +1,15 @@
 -- What holds of the records that are kept: the last one is refused with the same number, and none of those between can be dropped any more.
-use mathlib.Core.Path.{_≡_, refl, sym, ap, _∙_, subst}
-use mathlib.Core.Bool.{Bool, true, false, cond, false≢true}
+use mathlib.Core.Path.{_≡_, refl, sym, ap, _∙_}
+use mathlib.Core.Bool.{Bool, true, false, cond}
 use mathlib.Core.List.{List, [], _∷_}
 use Prim.Native.Nat.{ℕ, zero, suc, _+_, _-_, _≤_, _<_}
 use native.Mathlib.Decide.{ℕ-discrete}
 use native.Mathlib.Omega.{arith}
 use lib.Dec.{eqb}
-use lib.ListN.{length, getD, set}
+use lib.ListN.{getD, set}
 use lib.Seq.{getD-set-other}
-use borrow.Author.Tests.{eqb-true, eqb-false, eq-eqb, ne-eqb}
+use borrow.Author.Tests.{eqb-true, eqb-false}
+use Rattle.lists.proofs.Tests.{by-test, both, second-passes}
 use Rattle.shortening.specs.Shortening.{isSame, drops, tried, passed, dropped, rounds}
 
 -- how many of records i down to 1 are kept
@@ -59,27 +60,15 @@ module _ (l : List ℕ) (count k : ℕ) where
   -- a drop stands only if it leaves the number
   drops-same : (flags : List ℕ) (i : ℕ) → drops l count k flags i ≡ true → Same (set flags i 0)
   unfolding drops
-  drops-same flags i e = go (eqb (getD flags i 0) 0) e
-    where
-      go : (t : Bool) → cond t false (isSame l count k (set flags i 0)) ≡ true → Same (set flags i 0)
-      go true q = absurd (false≢true q)
-      go false q = q
+  drops-same flags i e = second-passes (eqb (getD flags i 0) 0) (isSame l count k (set flags i 0)) e .1
 
   drops-flag : (flags : List ℕ) (i : ℕ) → drops l count k flags i ≡ true → eqb (getD flags i 0) 0 ≡ false
   unfolding drops
-  drops-flag flags i e = go (eqb (getD flags i 0) 0) e
-    where
-      go : (t : Bool) → cond t false (isSame l count k (set flags i 0)) ≡ true → t ≡ false
-      go true q = absurd (false≢true q)
-      go false q = refl
+  drops-flag flags i e = second-passes (eqb (getD flags i 0) 0) (isSame l count k (set flags i 0)) e .0
 
   tried-same : (flags : List ℕ) (i : ℕ) → Same flags → Same (tried l count k flags i)
   unfolding tried
-  tried-same flags i s = go (drops l count k flags i) refl
-    where
-      go : (t : Bool) → drops l count k flags i ≡ t → Same (cond t (set flags i 0) flags)
-      go true e = drops-same flags i e
-      go false e = s
+  tried-same flags i s = by-test Same (drops l count k flags i) (λ e. drops-same flags i e) (λ e. s)
 
   passed-same : (i : ℕ) (flags : List ℕ) → Same flags → Same (passed l count k i flags)
   unfolding passed
@@ -89,15 +78,9 @@ module _ (l : List ℕ) (count k : ℕ) where
   pub rounds-same : (f : ℕ) (flags : List ℕ) → Same flags → Same (rounds f l count k flags)
   unfolding rounds
   rounds-same zero flags s = s
-  rounds-same (suc f) flags s = go (eqb (dropped l count k (count - 2) flags) 0) (rounds-same f (passed l count k (count - 2) flags) after)
-    where
-      after : Same (passed l count k (count - 2) flags)
-      after = passed-same (count - 2) flags s
-
-      go : (t : Bool) → Same (rounds f l count k (passed l count k (count - 2) flags))
-          → Same (cond t (passed l count k (count - 2) flags) (rounds f l count k (passed l count k (count - 2) flags)))
-      go true r = after
-      go false r = r
+  rounds-same (suc f) flags s =
+      let after = passed-same (count - 2) flags s in
+      both Same (eqb (dropped l count k (count - 2) flags) 0) after (rounds-same f (passed l count k (count - 2) flags) after)
 
   -- ---- none of those between can be dropped any more
 

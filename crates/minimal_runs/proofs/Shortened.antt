@@ -2,23 +2,23 @@
 -- are kept.
 use mathlib.Core.Path.{_≡_, refl, sym, ap, _∙_, subst}
 use mathlib.Core.Logic.{_≢_}
-use mathlib.Core.Bool.{Bool, true, false, cond, false≢true}
-use mathlib.Core.List.{List, [], _∷_, _++_}
+use mathlib.Core.Bool.{Bool, true, false, cond}
+use mathlib.Core.List.{List, _++_}
 use Prim.Native.Nat.{ℕ, zero, suc, _+_, _-_, _*_, _≤_, _<_}
 use native.Mathlib.Nat.{add-zero}
 use native.Mathlib.Omega.{arith}
 use lib.Dec.{eqb, leb, ltb}
 use lib.ListN.{length, getD, set, take, drop, replicate, getD-replicate}
 use lib.Seq.{take-add, take-all, getD-set-other}
-use borrow.Author.Tests.{eqb-true, eqb-false, eq-eqb, ne-eqb, leb-true, leb-false}
+use borrow.Author.Tests.{eqb-true, eqb-false, eq-eqb, ne-eqb, leb-true}
 use Rattle.limits.specs as limits
-use Rattle.protocol.specs.Steps.{startRefused}
+use Rattle.lists.proofs.Tests.{both}
+use Rattle.protocol.specs.Starts.{setupOf, startRefused}
 use Rattle.records.specs.declared.Next.{Next}
 use Rattle.records.specs.Records.{nextAt}
-use Rattle.turns.specs.Turns.{replicasOf}
 use Rattle.shortening.specs.Shortening.{sizeAt, placeOf, isRecord, recordsFrom, metFrom, metFirst, met, recordsIn, refusalOf, keptTo, isSame, drops, tried, passed, dropped, rounds, mostRecords, flagsOf, shortened}
 use Rattle.shortening.specs.Contracts.{Within, Sound}
-use Rattle.shortening.proofs.Records.{record-lies, place-next, place-one, within-one, within-more, size-least}
+use Rattle.shortening.proofs.Records.{record-lies, place-next, place-one, within-one, within-more}
 use Rattle.minimal_runs.proofs.Minimal.{keptIn, kept-most, rounds-same, pass-stable, rounds-stable}
 
 -- ---- the records of an input in which nothing is met
@@ -55,7 +55,7 @@ sound-from (suc f) l at count e fuel p big inside w some = end (leb (length l) a
 
 -- a start that is read
 first-met : (l : List ℕ) (f : Next) → metFirst l f ≡ 0 → (isRecord f ≡ true) × (metFrom (length l) l (sizeAt l 0) ≡ 0)
-first-met l (Next.Record x n) e = go (startRefused (replicasOf x)) e
+first-met l (Next.Record x n) e = go (startRefused (setupOf x)) e
   where
     go : (t : Bool) → cond t 2 (metFrom (length l) l (sizeAt l 0)) ≡ 0 → (true ≡ true) × (metFrom (length l) l (sizeAt l 0) ≡ 0)
     go true q = absurd (omega (arith, q))
@@ -96,11 +96,8 @@ passed-beside : (l : List ℕ) (count k i : ℕ) (flags : List ℕ) (j : ℕ) �
 unfolding passed tried
 passed-beside l count k zero flags j h = refl
 passed-beside l count k (suc i) flags j h =
-    passed-beside l count k i (cond (drops l count k flags (suc i)) (set flags (suc i) 0) flags) j (λ t a b. h t a (omega (arith, b))) ∙ go (drops l count k flags (suc i))
-  where
-    go : (t : Bool) → getD (cond t (set flags (suc i) 0) flags) j 0 ≡ getD flags j 0
-    go true = getD-set-other flags (suc i) j 0 0 (h (suc i) (omega arith) (omega arith))
-    go false = refl
+    passed-beside l count k i (cond (drops l count k flags (suc i)) (set flags (suc i) 0) flags) j (λ t a b. h t a (omega (arith, b))) ∙
+    both (λ (fs : List ℕ). getD fs j 0 ≡ getD flags j 0) (drops l count k flags (suc i)) (getD-set-other flags (suc i) j 0 0 (h (suc i) (omega arith) (omega arith))) refl
 
 rounds-beside : (f : ℕ) (l : List ℕ) (count k : ℕ) (flags : List ℕ) (j : ℕ) → ((t : ℕ) → 0 < t → t ≤ count - 2 → j ≢ t) → getD (rounds f l count k flags) j 0 ≡ getD flags j 0
 unfolding rounds

@@ -6,8 +6,8 @@ use lib.Dec.{eqb, leb}
 use lib.ListN.{length, getD}
 use Rattle.limits.specs as limits
 use Rattle.contexts.specs.declared.Objects.{Objects}
-use Rattle.contexts.specs.{context}
 use Rattle.protocol.specs.declared.Refusal.the-variants.{Format}
+use Rattle.protocol.specs.declared.Setup.the-variants.{Missing, Chain}
 use Rattle.protocol.specs.declared.Step.{Step}
 use Rattle.protocol.specs.declared.Step.the-variants.{Start, BeginRead, BeginWrite, Deliver, Lose, Repeat, Advance, Replace, Tell, Remove, GiveUp, BeginContext, Join, Copy}
 use Rattle.protocol.specs.Answers.{refusalNumber}
@@ -34,7 +34,7 @@ isRecord tag a b =
 -- the step of a kind with these numbers
 unfoldable pub stepFrom : ℕ → ℕ → ℕ → Step
 stepFrom k a b =
-    cond (eqb k 0) (Start (a % 256))
+    cond (eqb k 0) (Start (Chain (a % 256)))
     (cond (eqb k 1) (BeginRead (a % 65536))
     (cond (eqb k 2) (BeginWrite (a % 65536) b)
     (cond (eqb k 3) (Deliver (a % 65536) (b % 256))
@@ -43,7 +43,8 @@ stepFrom k a b =
     (cond (eqb k 6) (Advance (a % 256))
     (cond (eqb k 7) (Replace (a % 65536))
     (cond (eqb k 8) (Tell (a % 256))
-    (cond (eqb k 9) (Remove (a % 256)) (cond (eqb k 12) Join (cond (eqb k 13) Copy (GiveUp a))))))))))))
+    (cond (eqb k 9) (Remove (a % 256))
+    (cond (eqb k 10) (GiveUp a) (cond (eqb k 12) Join (cond (eqb k 13) Copy (Start Missing)))))))))))))
 
 -- refusal 1 where there is no such record, 15 where the buffer is too short, 0 where it is written
 unfoldable pub recordRefusal : List ℕ → ℕ → ℕ → ℕ → ℕ

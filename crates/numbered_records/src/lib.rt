@@ -7,6 +7,7 @@ ghost use Rattle.numbered_records.specs.{largestFirst, largestSecond, ha
 use contexts::Objects;
 use limits::LAST_OPERATION;
 use protocol::Refusal;
+use protocol::Setup;
 use protocol::Step;
 use protocol::answers;
 use records::CONTEXT_KIND;
@@ -65,7 +66,7 @@ fn step_from(kind: usize, first: u32, second: u32) -> Step
     ensures { λ r. ⌜ r ≡ stepFrom kind first second ⌝ }
 {
     match kind {
-        0 => Step::Start((first % 256) as u8),
+        0 => Step::Start(Setup::Chain((first % 256) as u8)),
         1 => Step::BeginRead((first % 65536) as u16),
         2 => Step::BeginWrite((first % 65536) as u16, second),
         3 => Step::Deliver((first % 65536) as u16, (second % 256) as u8),
@@ -75,9 +76,10 @@ fn step_from(kind: usize, first: u32, second: u32) -> Step
         7 => Step::Replace((first % 65536) as u16),
         8 => Step::Tell((first % 256) as u8),
         9 => Step::Remove((first % 256) as u8),
+        10 => Step::GiveUp(first),
         12 => Step::Join,
         13 => Step::Copy,
-        _ => Step::GiveUp(first),
+        _ => Step::Start(Setup::Missing),
     }
 }
 

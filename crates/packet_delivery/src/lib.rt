@@ -1,12 +1,23 @@
 // Which rule delivers a packet: crates/switch_delivery and replica_delivery have the rules, and crates/context_reads and context_answers those for reads of several objects.
+ghost use mathlib.Core.Path.{_≡_};
 ghost use Rattle.protocol.specs.Decisions.{given};
-ghost use Rattle.protocol.specs.Steps.{delivered};
+ghost use Rattle.protocol.specs.Steps.{isSound, delivered};
 ghost use Rattle.packet_delivery.specs.{Leaves};
 use limits::OBJECTS;
 use protocol::Decision;
 use protocol::Message;
 use protocol::Refusal;
 use waiting::Packet;
+
+// Whether what the packet names is there.
+fn is_sound(opens: &[u32; operations::CELLS], p: Packet) -> bool
+    ensures { λ r. ⌜ r ≡ isSound (now (opens .entry)) p ⌝ }
+{
+    if OBJECTS <= (p.object as usize) {
+        return false;
+    }
+    context_rows::has_row(opens, p)
+}
 
 // What the delivery of packet p does.
 pub fn deliver(
@@ -24,7 +35,7 @@ pub fn deliver(
     if held <= at {
         return decisions::refuse(Refusal::NoPacket);
     }
-    if OBJECTS <= (p.object as usize) {
+    if !is_sound(opens, p) {
         return context_rows::leave(&mut *opens, p, at);
     }
     let m = messages::message_of(p);

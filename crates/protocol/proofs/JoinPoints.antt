@@ -10,8 +10,8 @@ use Rattle.stamp.specs.Stamps.{stampOf, numberOf, counterOf, stampIn, setStamp}
 use Rattle.operations.specs.{noneOpen}
 use Rattle.store.specs.declared.Write.{Write}
 use Rattle.store.specs.{lastNumberCell, joinCell, valueCell, stampCell, storeCells, liveCount, orderAt, numberAt, members, rowOf, valueAt, stampAt, tabled}
-use Rattle.chain.specs.{memberAt, numbers, placeOf, isMember, isTail, tableOf, numberIn, tailNumber, removed, emptyCells, numbered, emptyStore}
-use Rattle.joins.specs.{isJoining, copiesMade, newcomer, newcomerNumber, lastNumber, isFull, beginning, isCopied, handingOn, joinEnded, without}
+use Rattle.chain.specs.{isReadPlace, isReadReplica, readReplicaNumber, memberAt, numbers, placeOf, isMember, isTail, tableOf, numberIn, tailNumber, removed, emptyCells, numbered, emptyStore}
+use Rattle.joins.specs.{isJoinSet, isJoining, copiesMade, newcomer, newcomerNumber, lastNumber, isFull, beginning, isCopied, handingOn, joinEnded, without}
 use Rattle.switch.specs.DirtySet.{newSwitch}
 use Rattle.waiting.specs.Waiting.{heldIn, noneWait, lookAt}
 use Rattle.protocol.specs.declared.Message.the-variants.{NormalRead, Reply}
@@ -40,7 +40,7 @@ joinedBy made = set (beginning (emptyStore 2)) joinCell (made + 1)
 usedUp : List ℕ → List ℕ
 usedUp s = set s lastNumberCell 255
 
--- a join that no run has: eight are live
+-- the cell of a join is set and eight are live, as no run has it
 overfullJoin : List ℕ
 overfullJoin = set (emptyStore 8) joinCell 1
 
@@ -53,18 +53,18 @@ join-points =
     point 1
     (answers (emptyStore 8) Join 17 ∷ answers (usedUp (emptyStore 2)) Join 17 ∷ answers (usedUp (joinedBy 0)) Join 17 ∷ answers overfullJoin Join 17 ∷
     answers (joinedBy 0) Join 18 ∷ answers (emptyStore 7) Join 0 ∷ []) ∷
-    -- 19 'if none is'; with eight live 17
+    -- 19 'if none is'; with eight live none is under way
     point 2
-    (answers (emptyStore 2) Copy 19 ∷ answers (emptyStore 8) Copy 19 ∷ answers overfullJoin Copy 17 ∷ answers (joinedBy 0) Copy 0 ∷ answers (joinedBy 15) Copy 0 ∷ []) ∷
-    -- the newcomer has the next number, and 'is not live: tell, advance and remove that name it give 9'
+    (answers (emptyStore 2) Copy 19 ∷ answers (emptyStore 8) Copy 19 ∷ answers overfullJoin Copy 19 ∷ answers (joinedBy 0) Copy 0 ∷ answers (joinedBy 15) Copy 0 ∷ []) ∷
+    -- the newcomer has the next number, and 'Before that it is not live': tell, advance and remove that name it give 9
     point 3
     (eqb (newcomerNumber (joinedBy 0)) 3 ∷ eqb (lastNumber (joinedBy 0)) 3 ∷ eqb (liveCount (joinedBy 0)) 2 ∷ answers (joinedBy 15) (Tell 3) 9 ∷
     answers (joinedBy 15) (Advance 3) 9 ∷ answers (joinedBy 15) (Remove 3) 9 ∷ []) ∷
-    -- 'a normal read delivered' at a former tail 'becomes a normal read to the present tail, with the stamp .. that it carries'
+    -- 'A normal read that reaches a former tail is sent on to the present one', with the stamp that it carries
     point 4
     (sends (normalRead (emptyStore 2) 0 1 7 5 3) (NormalRead 2 7 5 3) ∷ sends (normalRead (emptyStore 2) 0 2 7 5 0) (Reply 7 0 0 noFreshness) ∷
     eqb (normalRead (joinedBy 15) 0 3 7 5 0 .edit .add) 0 ∷ []) ∷
-    -- 'Only an accepted removal of the tail ends a join', and the number is used up
+    -- 'Removing the tail meanwhile ends the join, and the newcomer's number is used up'; the removal of another does not
     point 5
     (not (isJoining (after (chained (joinedBy 3)) (Remove 2) .store)) ∷ eqb (lastNumber (after (chained (joinedBy 3)) (Remove 2) .store)) 3 ∷
     isJoining (after (chained (joinedBy 3)) (Remove 1) .store) ∷ eqb (newcomerNumber (after (chained (joinedBy 3)) (Remove 1) .store)) 3 ∷
@@ -78,5 +78,5 @@ join-points =
 
 -- the definitions compute every row, and no row is missing
 pub join-points-hold : allHold 1 6 join-points ≡ true
-unfolding join-points chained answers joinedBy usedUp overfullJoin allHold allTrue gives sends emptyList stampOf numberOf counterOf stampIn setStamp indexOf listOf moves noneOpen valueCell stampCell storeCells liveCount orderAt numberAt members rowOf valueAt stampAt tabled memberAt numbers placeOf isMember isTail tableOf numberIn tailNumber removed emptyCells numbered emptyStore isJoining copiesMade newcomer newcomerNumber lastNumber isFull beginning isCopied handingOn joinEnded without newSwitch heldIn noneWait lookAt packetOf refusing dropping passing freshness normalRead advancing telling removing joining copyingOn positionOf isMalformed decided decidedIn answerTo after
+unfolding join-points isJoinSet isReadPlace isReadReplica readReplicaNumber chained answers joinedBy usedUp overfullJoin allHold allTrue gives sends emptyList stampOf numberOf counterOf stampIn setStamp indexOf listOf moves noneOpen valueCell stampCell storeCells liveCount orderAt numberAt members rowOf valueAt stampAt tabled memberAt numbers placeOf isMember isTail tableOf numberIn tailNumber removed emptyCells numbered emptyStore isJoining copiesMade newcomer newcomerNumber lastNumber isFull beginning isCopied handingOn joinEnded without newSwitch heldIn noneWait lookAt packetOf refusing dropping passing freshness normalRead advancing telling removing joining copyingOn positionOf isMalformed decided decidedIn answerTo after
 join-points-hold = refl

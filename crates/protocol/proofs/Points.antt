@@ -8,13 +8,13 @@ use lib.Dec.{eqb}
 use lib.ListN.{getD, set, replicate}
 use Rattle.limits.specs as limits
 use Rattle.lists.specs.{indexOf, listOf, moves, allOf}
-use Rattle.contexts.specs.{placeOf, sizeOf, numbersOf, isCount, isObject, areObjects, standsFirst, areDifferent, emptyAt, isNaming, rowCell, sizeAt, freeRow}
+use Rattle.contexts.specs.{isContext, placeOf, sizeOf, numbersOf, isCount, isObject, areObjects, standsFirst, areDifferent, emptyAt, isNaming, rowCell, sizeAt, freeRow}
 use Rattle.stamp.specs.Stamps.{stampOf, numberOf, counterOf, isAbove, largerOf, stampIn, setStamp}
 use Rattle.operations.specs.{noneOpen, openCount, openNumbers, openPlace, isOpen, lastGiven, roomToOpen, opening}
 use Rattle.store.specs.{entryCell, entryStampCell, valueCell, stampCell, storeCells, liveCount, orderAt, numberAt, members, rowOf, highestOf, permittedBy, appliedBy, valueAt, stampAt, logged, tabled, raised}
-use Rattle.chain.specs.{memberAt, headOf, tailOf, numbers, placeOf as placeOfNumber, isMember, isTail, tableOf, numberIn as numberInChain, headNumber, tailNumber, chosenBy, permits, allPermit, permitting, removed, emptyCells, numbered, emptyStore}
-use Rattle.replicas.specs.Replicas.{linkedWrites, accepts, nextPosition, applying, taking, pendingAt, oldest, answersDirect}
-use Rattle.joins.specs.{isJoining, copiesMade, isCopied, handingOn, joinEnded, without}
+use Rattle.chain.specs.{isReadPlace, isReadReplica, readReplicaNumber, memberAt, headOf, tailOf, numbers, placeOf as placeOfNumber, isMember, isTail, tableOf, numberIn as numberInChain, headNumber, tailNumber, chosenBy, permits, allPermit, permitting, removed, emptyCells, numbered, emptyStore}
+use Rattle.replicas.specs.Replicas.{isNotAbove, linkedWrites, accepts, nextPosition, applying, taking, pendingAt, oldest, answersDirect}
+use Rattle.joins.specs.{isJoinSet, isJoining, copiesMade, isCopied, handingOn, joinEnded, without}
 use Rattle.switch.specs.Numbers.{slots, marksCell, numberIn, counterIn, committedIn, directIn, marksIn, slotObject, slotStamp}
 use Rattle.slots.specs.{firstSlot, secondSlot, thirdSlot, holdsObject, countsAbove, isFree, holdsAbove, isCompleted}
 use Rattle.switch.specs.DirtySet.{freeSlot, slotFor, markAbove, lookedUp, nextStamp, lessOne, oneMore, marksFor, marking, canMark, marked, stampFor, clearedAt, isOwn, raising, committing, completed, newSwitch, countedTo, countedMarks}
@@ -25,14 +25,17 @@ use Rattle.protocol.specs.declared.Answer.the-variants.{Done, Finished, 
 use Rattle.protocol.specs.declared.Message.{Message}
 use Rattle.protocol.specs.declared.Message.the-variants.{UnstampedWrite, SwitchRead, StampedWrite, NormalRead, Completion, Reply}
 use Rattle.protocol.specs.declared.Decision.{Decision}
+use Rattle.protocol.specs.declared.Setup.the-variants.{Chain}
 use Rattle.protocol.specs.declared.Step.{Step}
 use Rattle.protocol.specs.declared.Step.the-variants.{Start, BeginRead, BeginWrite, Deliver, Lose, Repeat, Advance, Replace, Tell, Remove, GiveUp, BeginContext}
 use Rattle.protocol.specs.Answers.{refusalNumber, noFreshness}
-use Rattle.protocol.specs.Messages.{packetOf, messageOf, isUnstamped, isOfContext}
+use Rattle.protocol.specs.Messages.{packetOf, messageOf, isUnstamped, isOfContext, isContextReply}
 use Rattle.protocol.specs.Decisions.{refusing, dropping, passing, overfull}
-use Rattle.protocol.specs.Contexts.{released, leaving}
+use Rattle.protocol.specs.Reads.{isUnmarked, goesDirectly}
+use Rattle.protocol.specs.Contexts.{hasRow, released, leaving}
 use Rattle.protocol.specs.Delivery.{stamping, unstampedWrite, switchRead, stampedWrite, directRead, normalRead, completion, reply, deliveredMessage}
-use Rattle.protocol.specs.Steps.{Machine, machine, startRefused, startAnswer, asking, beginOperation, beginContext, delivered, lost, copied, repeated, advancing, replacing, telling, removing, givingUp, positionOf, isMalformed, decided, decidedIn, answerTo, after, steppedBy}
+use Rattle.protocol.specs.Starts.{startRefused, startAnswer}
+use Rattle.protocol.specs.Steps.{Machine, machine, asking, beginOperation, beginContext, isSound, delivered, lost, copied, repeated, advancing, replacing, telling, removing, givingUp, positionOf, isMalformed, decided, decidedIn, answerTo, after, steppedBy}
 
 -- a point of document 01: its number, and tests that must all pass
 pub record Point : Type 0 where
@@ -154,8 +157,8 @@ points =
     gives (answerTo (lone emptyList) (BeginWrite 1023 9)) 0 ∷ gives (answerTo (lone emptyList) (BeginWrite 1024 9)) 3 ∷ []) ∷
     -- 'Starts 1 and 8 stand; 0 and 9 give 2.'
     point 3
-    (gives (startAnswer 1) 0 ∷ gives (startAnswer 8) 0 ∷
-    gives (startAnswer 0) 2 ∷ gives (startAnswer 9) 2 ∷ []) ∷
+    (gives (startAnswer (Chain 1)) 0 ∷ gives (startAnswer (Chain 8)) 0 ∷
+    gives (startAnswer (Chain 0)) 2 ∷ gives (startAnswer (Chain 9)) 2 ∷ []) ∷
     -- 'From no marks and with none completed, marking 16, 512, 32, 17, 33 leaves no slot for 0.'
     point 4 (eqb (countedMarks switchOfP4) 5 ∷ eqb (slotFor switchOfP4 0) slots ∷ not (canMark switchOfP4 0) ∷ []) ∷
     -- 'After P4, object 256 takes slot 4 of the third stage.'
@@ -178,7 +181,7 @@ points =
     point 11 (eqb (liveCount storeOfP11) 3 ∷ eqb (chosenBy storeOfP11 5) 4 ∷ []) ∷
     []
 
--- Req 02, 'Order of refusals at tag 11': 1, 3, 16, then 4 to 6
+-- Req 02, the order of refusals at tag 11: 1, 3, 16, then 4 to 6
 pub context-points : List Point
 context-points =
     -- 2 to 8 objects are taken
@@ -209,7 +212,7 @@ marks-points =
     point 1
     (eqb (marksAfter (stored 7) emptyList (BeginRead 5)) 7 ∷ eqb (marksAfter (stored 7) emptyList (BeginRead 1024)) 7 ∷
     eqb (marksAfter (stored 7) emptyList (BeginWrite 5 9)) 7 ∷ eqb (marksAfter (stored 7) emptyList (naming 2 (5 ∷ 6 ∷ []))) 7 ∷
-    eqb (marksAfter (stored 7) emptyList (Start 2)) 7 ∷ []) ∷
+    eqb (marksAfter (stored 7) emptyList (Start (Chain 2))) 7 ∷ []) ∷
     -- .. by deliveries of other packets, by losses and by repeats
     point 2
     (eqb (marksAfter (stored 7) (copies 1 (SwitchRead 1 5)) (Deliver 0 0)) 7 ∷ eqb (marksAfter (stored 7) (copies 1 writeOfP10) (Deliver 0 0)) 7 ∷
@@ -244,5 +247,5 @@ pub record PointsHold : Type 0 where
   pub marks-points-hold : allHold 1 7 marks-points ≡ true
 
 pub holds : PointsHold
-unfolding points allHold allTrue gives lone copies emptyList markedAll switchOfP4 switchOfP7 storeOfP6 readOfP6 sends writeOfP10 storeOfP11 stampOf numberOf counterOf isAbove largerOf stampIn setStamp entryStampCell noneOpen openCount lastGiven roomToOpen indexOf listOf moves entryCell valueCell stampCell storeCells liveCount orderAt numberAt members rowOf highestOf permittedBy appliedBy valueAt stampAt logged tabled raised memberAt headOf tailOf numbers placeOfNumber isMember isTail tableOf numberInChain headNumber tailNumber chosenBy removed emptyCells numbered emptyStore linkedWrites accepts nextPosition applying taking answersDirect numberIn counterIn committedIn slotObject slotStamp firstSlot secondSlot thirdSlot holdsObject countsAbove isFree holdsAbove freeSlot slotFor markAbove lookedUp nextStamp marking canMark marked isCompleted clearedAt completed newSwitch countedTo countedMarks heldIn noneWait lookAt takesOut leftBy fits afterTaking adding edited packetOf messageOf isUnstamped isOfContext refusing passing overfull directRead stampedWrite deliveredMessage startRefused startAnswer beginOperation delivered copied repeated positionOf isMalformed decided decidedIn answerTo after context-points naming beginContext allOf placeOf sizeOf numbersOf isCount isObject areObjects standsFirst areDifferent emptyAt isNaming rowCell sizeAt freeRow opening marks-points stored several marksAfter marksIn lessOne oneMore marksFor isOwn raising committing leaving released dropping stamping unstampedWrite switchRead normalRead completion reply lost advancing pendingAt oldest handingOn isCopied isJoining copiesMade joinEnded without replacing telling permitting removing givingUp stampFor asking allPermit permits directIn isOpen openPlace openNumbers
+unfolding points isJoinSet isReadPlace isReadReplica readReplicaNumber isNotAbove isUnmarked goesDirectly isSound hasRow isContextReply isContext allHold allTrue gives lone copies emptyList markedAll switchOfP4 switchOfP7 storeOfP6 readOfP6 sends writeOfP10 storeOfP11 stampOf numberOf counterOf isAbove largerOf stampIn setStamp entryStampCell noneOpen openCount lastGiven roomToOpen indexOf listOf moves entryCell valueCell stampCell storeCells liveCount orderAt numberAt members rowOf highestOf permittedBy appliedBy valueAt stampAt logged tabled raised memberAt headOf tailOf numbers placeOfNumber isMember isTail tableOf numberInChain headNumber tailNumber chosenBy removed emptyCells numbered emptyStore linkedWrites accepts nextPosition applying taking answersDirect numberIn counterIn committedIn slotObject slotStamp firstSlot secondSlot thirdSlot holdsObject countsAbove isFree holdsAbove freeSlot slotFor markAbove lookedUp nextStamp marking canMark marked isCompleted clearedAt completed newSwitch countedTo countedMarks heldIn noneWait lookAt takesOut leftBy fits afterTaking adding edited packetOf messageOf isUnstamped isOfContext refusing passing overfull directRead stampedWrite deliveredMessage startRefused startAnswer beginOperation delivered copied repeated positionOf isMalformed decided decidedIn answerTo after context-points naming beginContext allOf placeOf sizeOf numbersOf isCount isObject areObjects standsFirst areDifferent emptyAt isNaming rowCell sizeAt freeRow opening marks-points stored several marksAfter marksIn lessOne oneMore marksFor isOwn raising committing leaving released dropping stamping unstampedWrite switchRead normalRead completion reply lost advancing pendingAt oldest handingOn isCopied isJoining copiesMade joinEnded without replacing telling permitting removing givingUp stampFor asking allPermit permits directIn isOpen openPlace openNumbers
 holds = record { points-hold = refl; context-points-hold = refl; marks-points-hold = refl }

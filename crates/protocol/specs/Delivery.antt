@@ -1,16 +1,16 @@
 -- Document 01, 'What delivery does', rule by rule, with document 02's Req 01. The packet at position `at` leaves the list. w is the switch, s the store.
 use mathlib.Core.Bool.{cond}
-use mathlib.Core.List.{List}
+use mathlib.Core.List.{List, [], _∷_}
 use Prim.Native.Nat.{ℕ}
 use lib.Dec.{eqb}
 use Rattle.operations.specs.{isOpen, closing}
 use Rattle.store.specs.declared.Write.{Write}
 use Rattle.store.specs.{valueAt, stampAt}
 use Rattle.stamp.specs.Stamps.{isAbove}
-use Rattle.chain.specs.{isMember, isTail, tableOf, headNumber, tailNumber, chosenBy, allPermit}
+use Rattle.chain.specs.{isMember, isTail, isReadReplica, tableOf, headNumber, readReplicaNumber, chosenBy, allPermit}
 use Rattle.joins.specs.{handingOn}
 use Rattle.replicas.specs.Replicas.{accepts, taking, answersDirect}
-use Rattle.switch.specs.Numbers.{numberIn, committedIn, directIn}
+use Rattle.switch.specs.Numbers.{numberIn, committedIn}
 use Rattle.switch.specs.DirtySet.{lookedUp, marked, stampFor, completed}
 use Rattle.waiting.specs.declared.Edit.{Edit}
 use Rattle.protocol.specs.declared.Refusal.the-variants.{WaitingFull}
@@ -19,7 +19,8 @@ use Rattle.protocol.specs.declared.Message.{Message}
 use Rattle.protocol.specs.declared.Message.the-variants.{UnstampedWrite, SwitchRead, StampedWrite, DirectRead, NormalRead, Completion, Reply, ContextRead, DirectContext, NormalContext, ContextReply, Unknown}
 use Rattle.protocol.specs.declared.Decision.{Decision}
 use Rattle.protocol.specs.Answers.{noFreshness, oldRead, newRead}
-use Rattle.protocol.specs.Messages.{packetOf}
+use Rattle.protocol.specs.Messages.{replyTo, completionOf}
+use Rattle.protocol.specs.Reads.{goesDirectly}
 use Rattle.protocol.specs.Contexts.{contextRead, directContext, normalContext, contextReply}
 use Rattle.protocol.specs.Decisions.{Given, Outcome, Switched, Stored, Opened, switched, stored, opened, keeping, changingSwitch, changingStore, changingOpens}
 use Rattle.protocol.specs.Decisions.{deciding, takeOut, takeOutAddTwo, refusing, dropping, passing, overfull}
@@ -36,19 +37,17 @@ unstampedWrite w s at o x v =
     cond (allPermit s (numberIn w)) (switched (stamping s at o x v (stampFor w x)) (marked w x)) (switched (dropping at) w)
 
 -- 'Read, to the switch. If direct reads are on and the object has no counting mark, it goes as a direct read with the switch's number and
--- last-committed stamp, to the live replica at chain place (choice mod number of live replicas). Otherwise it goes as a normal read to the tail.'
+-- last-committed stamp, to the live replica at chain place (choice mod number of live replicas), places from 0. Otherwise it goes as a normal read to the tail.'
 -- Req 01: 'A read that the switch sends to the tail while its object has a counting mark carries that stamp'; (0,0), which is no mark's, stands for none.
 unfoldable pub switchRead : List ℕ → List ℕ → ℕ → ℕ → ℕ → ℕ → Decision
 switchRead w s at choice o x =
-    cond (directIn w)
-    (cond (eqb (lookedUp w x) 0)
+    cond (goesDirectly w (x ∷ []))
     (passing at (DirectRead (chosenBy s choice) (numberIn w) (committedIn w) o x))
-    (passing at (NormalRead (tailNumber s) o x (lookedUp w x))))
-    (passing at (NormalRead (tailNumber s) o x (lookedUp w x)))
+    (passing at (NormalRead (readReplicaNumber s) o x (lookedUp w x)))
 
--- 'The tail, on applying a write, sends a reply with the written value, then a completion with object and stamp.'
+-- what the tail sends in the place of a delivered write
 abbrev pub answering : ℕ → Write → Edit
-answering at w = takeOutAddTwo at (packetOf (Reply (w .operation) (w .value) 0 noFreshness)) (packetOf (Completion (w .object) (w .stamp)))
+answering at w = takeOutAddTwo at (replyTo w) (completionOf w)
 
 -- 'Stamped write, to a replica. Dropped if that replica is gone, if the stamp is not above its highest, or if the links hold 64. Otherwise it is applied
 -- and put in the link to the next replica. A lone replica acts as tail at the same time.' Req 04: what the tail applies reaches a newcomer that has its copy of the object
@@ -67,9 +66,9 @@ stampedWrite s held at r w =
 unfoldable pub directRead : List ℕ → ℕ → ℕ → ℕ → ℕ → ℕ → ℕ → Decision
 directRead s at r number t o x =
     cond (isMember s r)
-    (cond (answersDirect s (tableOf s r) x number t)
+    (cond (answersDirect s (tableOf s r) number t (x ∷ []))
     (passing at (Reply o (valueAt s (tableOf s r) x) 0 noFreshness))
-    (passing at (NormalRead (tailNumber s) o x 0)))
+    (passing at (NormalRead (readReplicaNumber s) o x 0)))
     (dropping at)
 
 -- Req 01: '`old` if the value's stamp is below the one carried, else `new`'; of a read that carries none, neither
@@ -81,13 +80,13 @@ freshness stamp carried = cond (eqb carried 0) noFreshness (cond (isAbove carrie
 unfoldable pub normalRead : List ℕ → ℕ → ℕ → ℕ → ℕ → ℕ → Decision
 normalRead s at r o x carried =
     cond (isMember s r)
-    (cond (isTail s r)
+    (cond (isReadReplica s r)
     (passing at (Reply o (valueAt s (tableOf s r) x) carried (freshness (stampAt s (tableOf s r) x) carried)))
-    (passing at (NormalRead (tailNumber s) o x carried)))
+    (passing at (NormalRead (readReplicaNumber s) o x carried)))
     (dropping at)
 
 -- 'Completion, to the switch. A mark of that object with a stamp not above the completion's is cleared. Last-committed becomes the larger of the two.
--- Direct reads are on from now.'
+-- Direct reads are on from now.' Req 10: 'From now a completion does so only if its stamp bears the present switch's number. Its other effects hold.'
 unfoldable pub completion : List ℕ → ℕ → ℕ → ℕ → Switched
 completion w at x t = switched (dropping at) (completed w x t)
 

@@ -5,6 +5,7 @@ use lib.Dec.{eqb, leb, ltb}
 use Rattle.store.specs.declared.Write.{Write}
 use Rattle.waiting.specs.declared.Packet.{Packet}
 use Rattle.waiting.specs.Waiting.{blank}
+use Rattle.protocol.specs.Answers.{noFreshness}
 use Rattle.protocol.specs.declared.Message.{Message}
 use Rattle.protocol.specs.declared.Message.the-variants.{UnstampedWrite, SwitchRead, StampedWrite, DirectRead, NormalRead, Completion, Reply, ContextRead, DirectContext, NormalContext, ContextReply, Unknown}
 
@@ -27,6 +28,14 @@ packetOf (NormalContext q o r) = packet 10 q 0 o 0 r 0
 packetOf (ContextReply o r) = packet 11 0 0 o 0 r 0
 packetOf Unknown = blank
 
+-- 'The tail, on applying a write, sends a reply with the written value, then a completion with object and stamp.'
+abbrev pub replyTo : Write → Packet
+replyTo w = packetOf (Reply (w .operation) (w .value) 0 noFreshness)
+
+abbrev pub completionOf : Write → Packet
+completionOf w = packetOf (Completion (w .object) (w .stamp))
+
+-- the write that a packet holds
 abbrev pub writeOf : Packet → Write
 writeOf p = record { operation = p .operation; object = p .object; value = p .value; stamp = p .stamp }
 
@@ -53,9 +62,12 @@ messageOf p =
 unfoldable pub isUnstamped : Packet → Bool
 isUnstamped p = eqb (p .kind) 1
 
--- the packet is one of a read of a whole context
+-- the packet is one of a read of a whole context, and its reply
 unfoldable pub isOfContext : Packet → Bool
 isOfContext p = cond (ltb (p .kind) 8) false (leb (p .kind) 11)
+
+unfoldable pub isContextReply : Packet → Bool
+isContextReply p = eqb (p .kind) 11
 
 -- the packet with another row
 abbrev pub inRow : Packet → ℕ → Packet

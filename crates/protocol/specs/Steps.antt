@@ -18,19 +18,22 @@ use Rattle.switch.specs.DirtySet.{newSwitch}
 use Rattle.waiting.specs.declared.Packet.{Packet}
 use Rattle.waiting.specs.declared.Edit.{Edit}
 use Rattle.waiting.specs.Waiting.{WaitingList, held, lookAt, edited, noneWait}
-use Rattle.protocol.specs.declared.Refusal.the-variants.{Format, Replicas, ObjectNumber, OperationsUsedUp, OpenFull, WaitingFull, NoPacket, UnstampedRepeat, NotLive, NoLinkedWrite, SwitchNumber, LastReplica, NotOpen, BufferTooShort, SameObject, ChainFull, JoinUnderWay, NoJoin}
+use Rattle.protocol.specs.declared.Refusal.the-variants.{Format, ObjectNumber, OperationsUsedUp, OpenFull, WaitingFull, NoPacket, UnstampedRepeat, NotLive, NoLinkedWrite, SwitchNumber, LastReplica, NotOpen, BufferTooShort, SameObject, ChainFull, JoinUnderWay, NoJoin}
 use Rattle.protocol.specs.declared.Answer.{Answer}
 use Rattle.protocol.specs.declared.Answer.the-variants.{Done, Refused}
 use Rattle.protocol.specs.declared.Stepped.{Stepped}
 use Rattle.protocol.specs.declared.Message.{Message}
-use Rattle.protocol.specs.declared.Message.the-variants.{UnstampedWrite, SwitchRead, Completion, Reply, ContextRead}
+use Rattle.protocol.specs.declared.Message.the-variants.{UnstampedWrite, SwitchRead, ContextRead}
+use Rattle.protocol.specs.declared.Setup.{Setup}
+use Rattle.protocol.specs.declared.Setup.the-variants.{Missing, Chain}
 use Rattle.protocol.specs.declared.Step.{Step}
 use Rattle.protocol.specs.declared.Step.the-variants.{Start, BeginRead, BeginWrite, Deliver, Lose, Repeat, Advance, Replace, Tell, Remove, GiveUp, BeginContext, Join, Copy}
-use Rattle.protocol.specs.Answers.{noFreshness}
-use Rattle.protocol.specs.Messages.{packetOf, messageOf, isUnstamped, isOfContext, inRow}
+use Rattle.protocol.specs.Starts.{startRefused}
+use Rattle.protocol.specs.Roles.{roleOf, positionAs}
+use Rattle.protocol.specs.Messages.{packetOf, replyTo, completionOf, messageOf, isUnstamped, isOfContext, inRow}
 use Rattle.protocol.specs.Decisions.{Given, given, Outcome, Switched, Stored, Opened, switched, stored, opened, keeping, changingSwitch, changingStore, changingOpens}
 use Rattle.protocol.specs.Decisions.{deciding, noEdit, addOne, addTwo, refusing, overfull}
-use Rattle.protocol.specs.Contexts.{leaving}
+use Rattle.protocol.specs.Contexts.{hasRow, leaving}
 use Rattle.protocol.specs.Delivery.{deliveredMessage}
 
 -- ---- the machine
@@ -47,32 +50,30 @@ machine switch store opens w = record { switch = switch; store = store; opens = 
 
 -- ---- the start
 
--- 'n outside 1 to 8'
-unfoldable pub startRefused : ℕ → Bool
-startRefused n = cond (eqb n 0) true (ltb limits.replicas n)
-
-unfoldable pub startAnswer : ℕ → Answer
-startAnswer n = cond (startRefused n) (Refused Replicas) Done
+-- the replicas of a start, of which nothing is written yet
+abbrev pub newStore : Setup → List ℕ
+newStore Missing = emptyStore 0
+newStore (Chain n) = emptyStore n
 
 -- 'An empty store is the state that an accepted start gives, with no packet waiting', whatever the lent places hold
-unfoldable pub started : ℕ → List Packet → Machine
-started n row = machine (newSwitch 1) (emptyStore n) noneOpen (noneWait row)
+unfoldable pub started : Setup → List Packet → Machine
+started b row = machine (newSwitch 1) (newStore b) noneOpen (noneWait row)
 
--- 'start with n replicas': what each part then is. A refused one leaves everything as it was
-unfoldable pub startSwitch : ℕ → List ℕ → List ℕ
-startSwitch n w = cond (startRefused n) w (newSwitch 1)
+-- what each part is after a start. A refused one leaves everything as it was
+unfoldable pub startSwitch : Setup → List ℕ → List ℕ
+startSwitch b w = cond (startRefused b) w (newSwitch 1)
 
-unfoldable pub startStore : ℕ → List ℕ → List ℕ
-startStore n s = cond (startRefused n) s (emptyStore n)
+unfoldable pub startStore : Setup → List ℕ → List ℕ
+startStore b s = cond (startRefused b) s (newStore b)
 
-unfoldable pub startOpens : ℕ → List ℕ → List ℕ
-startOpens n opens = cond (startRefused n) opens noneOpen
+unfoldable pub startOpens : Setup → List ℕ → List ℕ
+startOpens b opens = cond (startRefused b) opens noneOpen
 
-unfoldable pub startWaiting : ℕ → WaitingList → WaitingList
-startWaiting n w = cond (startRefused n) w (noneWait (w .packets))
+unfoldable pub startWaiting : Setup → WaitingList → WaitingList
+startWaiting b w = cond (startRefused b) w (noneWait (w .packets))
 
-abbrev pub afterStart : ℕ → Machine → Machine
-afterStart n m = machine (startSwitch n (m .switch)) (startStore n (m .store)) (startOpens n (m .opens)) (startWaiting n (m .waiting))
+abbrev pub afterStart : Setup → Machine → Machine
+afterStart b m = machine (startSwitch b (m .switch)) (startStore b (m .store)) (startOpens b (m .opens)) (startWaiting b (m .waiting))
 
 -- ---- the steps
 
@@ -107,11 +108,15 @@ beginContext opens held x =
     (opened (refusing SameObject) opens))
     (opened (refusing ObjectNumber) opens)
 
--- deliver: 7, then what the packet asks. In a state that no run reaches a packet may name an object that there is not: it is dropped
+-- what a packet names is there, as it is in every run: an object up to 1,023, and the row of a context
+unfoldable pub isSound : List ℕ → Packet → Bool
+isSound opens p = cond (leb limits.objects (p .object)) false (hasRow opens p)
+
+-- deliver: 7, then what the packet asks. In a state that no run reaches a packet may name what there is not: it is dropped
 unfoldable pub delivered : Given → Packet → ℕ → ℕ → Outcome
 delivered g p at choice =
     cond (leb (g .held) at) (keeping g (refusing NoPacket))
-    (cond (leb limits.objects (p .object)) (changingOpens g (leaving (g .opens) p at)) (deliveredMessage g at choice (messageOf p)))
+    (cond (isSound (g .opens) p) (deliveredMessage g at choice (messageOf p)) (changingOpens g (leaving (g .opens) p at)))
 
 -- 'lose the packet at a position'
 unfoldable pub lost : List ℕ → ℕ → Packet → ℕ → Opened
@@ -134,7 +139,7 @@ repeated opens held p at =
 
 -- what the tail sends for a write
 abbrev pub sending : Write → Edit
-sending w = addTwo (packetOf (Reply (w .operation) (w .value) 0 noFreshness)) (packetOf (Completion (w .object) (w .stamp)))
+sending w = addTwo (replyTo w) (completionOf w)
 
 -- 'this replica applies the oldest write of its incoming link, and passes it on unless it is the tail'. Order: 9, 10, 6
 unfoldable pub advancing : List ℕ → ℕ → ℕ → Stored
@@ -165,12 +170,9 @@ unfoldable pub joining : List ℕ → Stored
 joining s =
     cond (isFull s) (stored (refusing ChainFull) s) (cond (isJoining s) (stored (refusing JoinUnderWay) s) (stored (deciding noEdit) (beginning s)))
 
--- Req 04, tag 13: a copy to the newcomer; 19 if none joins. In a state that no run reaches eight may be live while one joins: 17
+-- Req 04, tag 13: a copy to the newcomer; 19 if none joins
 unfoldable pub copyingOn : List ℕ → Stored
-copyingOn s =
-    cond (isJoining s)
-    (cond (leb limits.replicas (liveCount s)) (stored (refusing ChainFull) s) (stored (deciding noEdit) (copying s)))
-    (stored (refusing NoJoin) s)
+copyingOn s = cond (isJoining s) (stored (deciding noEdit) (copying s)) (stored (refusing NoJoin) s)
 
 -- 'give up this operation; it stays unfinished for good'
 unfoldable pub givingUp : List ℕ → ℕ → Opened
@@ -180,24 +182,11 @@ givingUp opens o = cond (isOpen opens o) (opened (deciding noEdit) (closing open
 
 -- the position of the waiting list that a step looks at
 unfoldable pub positionOf : Step → ℕ
-positionOf (Start n) = 0
-positionOf (BeginRead x) = 0
-positionOf (BeginWrite x v) = 0
-positionOf (Deliver at choice) = at
-positionOf (Lose at) = at
-positionOf (Repeat at) = at
-positionOf (Advance r) = 0
-positionOf (Replace number) = 0
-positionOf (Tell r) = 0
-positionOf (Remove r) = 0
-positionOf (GiveUp o) = 0
-positionOf (BeginContext x) = 0
-positionOf Join = 0
-positionOf Copy = 0
+positionOf x = positionAs (roleOf x)
 
 -- the decision of a step; p is the packet at its position. A start that comes as a step is refused
 unfoldable pub decided : Given → Packet → Step → Outcome
-decided g p (Start n) = keeping g (refusing Format)
+decided g p (Start b) = keeping g (refusing Format)
 decided g p (BeginRead x) = changingOpens g (beginOperation (g .opens) (g .held) false x 0)
 decided g p (BeginWrite x v) = changingOpens g (beginOperation (g .opens) (g .held) true x v)
 decided g p (Deliver at choice) = delivered g p at choice
@@ -214,7 +203,7 @@ decided g p Copy = changingStore g (copyingOn (g .store))
 
 -- a step that is none, one with a switch number of more than 16 bits, or one with another number of objects than 2 to 8: 1, before anything else
 unfoldable pub isMalformed : Step → Bool
-isMalformed (Start n) = true
+isMalformed (Start b) = true
 isMalformed (BeginRead x) = false
 isMalformed (BeginWrite x v) = false
 isMalformed (Deliver at choice) = false

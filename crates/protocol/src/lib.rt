@@ -1,6 +1,7 @@
 // What the step machine is handed, what it answers, and what it decides between: types. crates/messages has the packets that hold messages, crates/decisions the commonest decisions.
 // specs/ says what each step does.
 pub mod answers;
+pub mod setups;
 
 use contexts::Context;
 use contexts::Objects;
@@ -15,9 +16,15 @@ use limits::Value;
 use store::Write;
 use waiting::Edit;
 
+// What a start sets up: none, where there is no start record; or a chain of so many replicas (document 01, tag 32).
+pub enum Setup {
+    Missing,
+    Chain(u8),
+}
+
 // Document 01, 'Steps and their records'. The fields have the widths that the records give them.
 pub enum Step {
-    Start(u8),
+    Start(Setup),
     BeginRead(u16),
     BeginWrite(u16, u32),
     Deliver(u16, u8),

@@ -5,22 +5,21 @@ use mathlib.Core.List.{List, [], _∷_}
 use mathlib.Core.Logic.{inl, inr}
 use Prim.Native.Nat.{ℕ, _+_, _-_, _≤_, _<_}
 use native.Mathlib.Omega.{arith}
-use lib.Dec.{eqb}
 use lib.ListN.{length}
 use borrow.Author.Tests.{le-ltb, lt-ltb, lt-leb}
+use Rattle.lists.proofs.Tests.{by-test, both}
 use Rattle.limits.specs as limits
 use Rattle.history.specs.History.{_∈_, reads, History, begun, finished, Finished}
 use Rattle.history.proofs.Lists.{here}
-use Rattle.history.proofs.Tests.{by-test}
 use Rattle.history.proofs.Entries.{Entry}
 use Rattle.operations.specs.{isOpen, closing}
 use Rattle.contexts.specs.{numbersOf, mapped, isCount, isContext, contextAt, holding, freeing}
 use Rattle.contexts.proofs.Places.{context-known}
 use Rattle.contexts.proofs.Rows.{size-is}
 use Rattle.store.specs.{valueAt, stampAt}
-use Rattle.chain.specs.{isMember, isTail, tableOf, tailNumber, chosenBy}
+use Rattle.chain.specs.{isMember, isReadReplica, tableOf, readReplicaNumber, chosenBy}
 use Rattle.replicas.specs.Replicas.{answersDirect}
-use Rattle.switch.specs.Numbers.{numberIn, committedIn, directIn}
+use Rattle.switch.specs.Numbers.{numberIn, committedIn}
 use Rattle.switch.specs.DirtySet.{lookedUp}
 use Rattle.waiting.specs.declared.Packet.{Packet}
 use Rattle.waiting.specs.Waiting.{held, lookAt, edited}
@@ -33,20 +32,21 @@ use Rattle.protocol.specs.declared.Message.{Message}
 use Rattle.protocol.specs.declared.Message.the-variants.{UnstampedWrite, SwitchRead, StampedWrite, DirectRead, NormalRead, Completion, Reply, ContextRead, DirectContext, NormalContext, ContextReply, Unknown}
 use Rattle.protocol.specs.declared.Step.{Step}
 use Rattle.protocol.specs.declared.Step.the-variants.{Deliver}
-use Rattle.protocol.specs.Messages.{packetOf, messageOf}
+use Rattle.protocol.specs.Messages.{packetOf, messageOf, isOfContext, isContextReply}
 use Rattle.protocol.specs.Decisions.{Outcome, Opened, opened, keeping, changingOpens, takeOut, takeOutAdd, dropping, passing}
-use Rattle.protocol.specs.Contexts.{droppingRow, goesDirectly, contextRead, answersContext, answeringContext, directContext, normalContext, contextReply}
+use Rattle.protocol.specs.Reads.{goesDirectly}
+use Rattle.protocol.specs.Contexts.{hasRow, droppingRow, contextRead, answeringContext, directContext, normalContext, contextReply}
 use Rattle.protocol.specs.Delivery.{switchRead, directRead, freshness, normalRead, reply, deliveredMessage}
-use Rattle.protocol.specs.Steps.{Machine, givenBy, outcomeOf, delivered, decided, isMalformed, decidedIn, positionOf}
+use Rattle.protocol.specs.Steps.{Machine, givenBy, outcomeOf, isSound, delivered, decided, isMalformed, decidedIn, positionOf}
 use Rattle.linearizability.specs.Run.{noted, openNoted}
-use Rattle.linearizability.proofs.Packets.{Names, rowNumbers}
+use Rattle.protocol.proofs.Effects.{Names, row-of}
+use Rattle.linearizability.proofs.Packets.{rowNumbers}
 use Rattle.linearizability.proofs.Waits.{Stands, stands-in, message-packet, at-position}
-use Rattle.linearizability.proofs.Invariant.{Good, done}
-use Rattle.linearizability.proofs.Deliveries.{both}
+use Rattle.linearizability.proofs.Invariant.{chain-held, Good, done}
 use Rattle.linearizability.proofs.Opens.{Same}
 use Rattle.read_bound.specs.Follow.{Place, at, gone, becomes}
 use Rattle.read_bound.proofs.Positions.{fewer-wait, as-many-wait, last-packet}
-use Rattle.read_bound.proofs.Members.{chosen-member, tail-member, tail-is-tail}
+use Rattle.read_bound.proofs.Members.{chosen-member, read-member, read-is-read}
 use Rattle.read_bound.proofs.Stages.{Stage, Heeded, Heard}
 
 module _ {m : Machine} {h : History} {es : List Entry} (g : Good m h es) (wide : waiting.Roomy (m .waiting)) {l : List ℕ} (opens : Same (m .opens) l)
@@ -98,9 +98,9 @@ module _ {m : Machine} {h : History} {es : List Entry} (g : Good m h es) (wide :
     | inr f ↦ f
   ]
 
-  -- the tail's number
-  tail-stage : (isMember s (tailNumber s) ≡ true) × (isTail s (tailNumber s) ≡ true)
-  tail-stage = (tail-member s (g .joined .places) (g .shown .live), tail-is-tail s (g .joined .places) (g .shown .live))
+  -- the number of the replica that answers normal reads
+  read-stage : (isMember s (readReplicaNumber s) ≡ true) × (isReadReplica s (readReplicaNumber s) ≡ true)
+  read-stage = (read-member s (chain-held (g .replicas) .joined .places) (chain-held (g .replicas) .shown .live), read-is-read s (chain-held (g .replicas) .joined .places) (chain-held (g .replicas) .shown .live))
 
   -- the row that a waiting packet names
   counts : (msg : Message) → Stands (m .waiting) i msg → (r : ℕ) → Names msg r → isCount (contextAt (m .opens) r .count) ≡ true
@@ -114,57 +114,77 @@ module _ {m : Machine} {h : History} {es : List Entry} (g : Good m h es) (wide :
   own (UnstampedWrite p x v) stands st = absurd st
   own (SwitchRead p x) stands st =
       let P : Decision → Type 0 = λ d. Own (keeping (givenBy m) d) in
-      let slow : P (passing i (NormalRead (tailNumber s) p x (lookedUp (m .switch) x))) =
-      passes (NormalRead (tailNumber s) p x (lookedUp (m .switch) x)) (m .opens) (st .0, omega (arith, st .1), tail-stage .0, tail-stage .1) in
-      both P (directIn (m .switch))
-      (both P (eqb (lookedUp (m .switch) x) 0)
-      (passes (DirectRead (chosenBy s choice) (numberIn (m .switch)) (committedIn (m .switch)) p x) (m .opens) (st .0, omega (arith, st .1), chosen-member s (g .joined .places) (g .shown .live) choice))
-      slow) slow
+      both P (goesDirectly (m .switch) (x ∷ []))
+      (passes (DirectRead (chosenBy s choice) (numberIn (m .switch)) (committedIn (m .switch)) p x) (m .opens) (st .0, omega (arith, st .1), chosen-member s (chain-held (g .replicas) .joined .places) (chain-held (g .replicas) .shown .live) choice))
+      (passes (NormalRead (readReplicaNumber s) p x (lookedUp (m .switch) x)) (m .opens) (st .0, omega (arith, st .1), read-stage .0, read-stage .1))
   own (StampedWrite r w) stands st = absurd st
   own (DirectRead r number t p x) stands st =
       let P : Decision → Type 0 = λ d. Own (keeping (givenBy m) d) in
       rw (st .2)
-      (both P (answersDirect s (tableOf s r) x number t)
+      (both P (answersDirect s (tableOf s r) number t (x ∷ []))
       (passes (Reply p (valueAt s (tableOf s r) x) 0 noFreshness) (m .opens) (st .0, omega (arith, st .1)))
-      (passes (NormalRead (tailNumber s) p x 0) (m .opens) (st .0, omega (arith, st .1), tail-stage .0, tail-stage .1)))
+      (passes (NormalRead (readReplicaNumber s) p x 0) (m .opens) (st .0, omega (arith, st .1), read-stage .0, read-stage .1)))
   own (NormalRead r p x t) stands st =
       rw (st .2, st .3) (passes (Reply p (valueAt s (tableOf s r) x) t (freshness (stampAt s (tableOf s r) x) t)) (m .opens) (st .0, omega (arith, st .1)))
   own (Completion x t) stands st = absurd st
   own (Reply p v t f) stands st =
-      by-test (λ (u : Opened). Own (changingOpens (givenBy m) u)) (isOpen (m .opens) p) _ _
+      by-test (λ (u : Opened). Own (changingOpens (givenBy m) u)) (isOpen (m .opens) p)
       (λ still. ends (FinishedWith p v f) (closing (m .opens) p) refl (st .1) (v ∷ [], here (ap (λ (q : ℕ). finished q (v ∷ [])) (sym (st .0)))))
       (λ shut. ends Done (m .opens) refl (st .1) (closed p (st .0) shut))
   own (ContextRead p r) stands st =
       let P : Opened → Type 0 = λ u. Own (changingOpens (givenBy m) u) in
-      rw (row-context (ContextRead p r) stands r p refl (g .core .packets .fine (ContextRead p r) (stands-in stands)))
-      (both P (goesDirectly (m .switch) (contextAt (m .opens) r))
-      (passes (DirectContext (chosenBy s choice) (numberIn (m .switch)) (committedIn (m .switch)) p r) (m .opens) (st .0, omega (arith, st .1), chosen-member s (g .joined .places) (g .shown .live) choice))
-      (passes (NormalContext (tailNumber s) p r) (m .opens) (st .0, omega (arith, st .1), tail-stage .0, tail-stage .1)))
+      both P (goesDirectly (m .switch) (rowNumbers (m .opens) r))
+      (passes (DirectContext (chosenBy s choice) (numberIn (m .switch)) (committedIn (m .switch)) p r) (m .opens) (st .0, omega (arith, st .1), chosen-member s (chain-held (g .replicas) .joined .places) (chain-held (g .replicas) .shown .live) choice))
+      (passes (NormalContext (readReplicaNumber s) p r) (m .opens) (st .0, omega (arith, st .1), read-stage .0, read-stage .1))
   own (DirectContext q number t p r) stands st =
       let P : Opened → Type 0 = λ u. Own (changingOpens (givenBy m) u) in
-      rw (st .2, row-context (DirectContext q number t p r) stands r p refl (g .core .packets .fine (DirectContext q number t p r) (stands-in stands) .0))
-      (both P (answersContext s (tableOf s q) number t (contextAt (m .opens) r))
+      rw (st .2)
+      (both P (answersDirect s (tableOf s q) number t (rowNumbers (m .opens) r))
       (passes (ContextReply p r) (holding (m .opens) r (mapped (valueAt s (tableOf s q)) (contextAt (m .opens) r))) (st .0, omega (arith, st .1)))
-      (passes (NormalContext (tailNumber s) p r) (m .opens) (st .0, omega (arith, st .1), tail-stage .0, tail-stage .1)))
+      (passes (NormalContext (readReplicaNumber s) p r) (m .opens) (st .0, omega (arith, st .1), read-stage .0, read-stage .1)))
   own (NormalContext q p r) stands st =
-      rw (st .2, row-context (NormalContext q p r) stands r p refl (g .core .packets .fine (NormalContext q p r) (stands-in stands)), st .3)
+      rw (st .2, st .3)
       (passes (ContextReply p r) (holding (m .opens) r (mapped (valueAt s (tableOf s q)) (contextAt (m .opens) r))) (st .0, omega (arith, st .1)))
   own (ContextReply p r) stands st =
       let v = contextAt (m .opens) r in
-      rw (counts (ContextReply p r) stands r refl)
-      (by-test (λ (u : Opened). Own (changingOpens (givenBy m) u)) (isOpen (m .opens) p) _ _
+      by-test (λ (u : Opened). Own (changingOpens (givenBy m) u)) (isOpen (m .opens) p)
       (λ still. ends (FinishedContext p v) (freeing (closing (m .opens) p) r) refl (st .1) (numbersOf v, here (ap (λ (q : ℕ). finished q (numbersOf v)) (sym (st .0)))))
-      (λ shut. ends Done (freeing (m .opens) r) refl (st .1) (closed p (st .0) shut)))
+      (λ shut. ends Done (freeing (m .opens) r) refl (st .1) (closed p (st .0) shut))
   own Unknown stands st = absurd st
+
+  -- a row that a waiting packet names is there
+  row-there : (msg : Message) → Stands (m .waiting) i msg → hasRow (m .opens) (packetOf msg) ≡ true
+  unfolding hasRow isOfContext isContextReply packetOf
+  row-there (UnstampedWrite p x v) stands = refl
+  row-there (SwitchRead p x) stands = refl
+  row-there (StampedWrite r w) stands = refl
+  row-there (DirectRead r number t p x) stands = refl
+  row-there (NormalRead r p x t) stands = refl
+  row-there (Completion x t) stands = refl
+  row-there (Reply p v t f) stands = refl
+  row-there (ContextRead p r) stands = row-context (ContextRead p r) stands r p refl (g .core .packets .fine (ContextRead p r) (stands-in stands))
+  row-there (DirectContext q number t p r) stands =
+      row-context (DirectContext q number t p r) stands r p refl (g .core .packets .fine (DirectContext q number t p r) (stands-in stands) .0)
+  row-there (NormalContext q p r) stands = row-context (NormalContext q p r) stands r p refl (g .core .packets .fine (NormalContext q p r) (stands-in stands))
+  row-there (ContextReply p r) stands = counts (ContextReply p r) stands r refl
+  row-there Unknown stands = refl
 
   -- the step itself, of a packet whose object there is
   abbrev packet : Packet
   packet = lookAt (m .waiting .packets) i
 
+  abbrev standing : Stands (m .waiting) i (messageOf packet)
+  standing = at-position (m .waiting) i wide inside
+
   delivery-is : packet .object < 1024 → outcomeOf m deliver ≡ deliveredMessage (givenBy m) i choice (messageOf packet)
-  unfolding decidedIn isMalformed decided delivered positionOf
+  unfolding decidedIn isMalformed decided delivered isSound positionOf
   delivery-is small =
-      rw (le-ltb (length (m .waiting .packets)) limits.waiting wide, lt-leb (held (m .waiting)) i inside, lt-leb limits.objects (packet .object) small) refl
+      rw (
+        le-ltb (length (m .waiting .packets)) limits.waiting wide,
+        lt-leb (held (m .waiting)) i inside,
+        lt-leb limits.objects (packet .object) small,
+        row-of (m .opens) packet (row-there (messageOf packet) standing),
+      ) refl
 
   pub own-step : packet .object < 1024 → Stage s o k (messageOf packet) → Own (outcomeOf m deliver)
-  own-step small st = subst Own (sym (delivery-is small)) (own (messageOf packet) (at-position (m .waiting) i wide inside) st)
+  own-step small st = subst Own (sym (delivery-is small)) (own (messageOf packet) standing st)

@@ -12,66 +12,53 @@ use borrow.Author.Tests.{eqb-true, eqb-false}
 use Rattle.history.specs.History.{_∈_, Event, History, finished, Finished}
 use Rattle.history.proofs.Lists.{here, there, no-member, cases-cons}
 use Rattle.lists.specs.{indexOf, without}
-use Rattle.chain.specs.{isMember, isTail}
+use Rattle.chain.specs.{isMember, isReadReplica}
 use Rattle.waiting.specs.Waiting.{held, lookAt}
 use Rattle.protocol.specs.declared.Answer.{Answer}
 use Rattle.protocol.specs.declared.Answer.the-variants.{Done, Finished as FinishedWith, FinishedContext, Refused}
-use Rattle.protocol.specs.declared.Refusal.{Refusal}
 use Rattle.protocol.specs.declared.Message.{Message}
-use Rattle.protocol.specs.declared.Message.the-variants.{UnstampedWrite, SwitchRead, StampedWrite, DirectRead, NormalRead, Completion, Reply, ContextRead, DirectContext, NormalContext, ContextReply, Unknown}
 use Rattle.protocol.specs.declared.Step.{Step}
-use Rattle.protocol.specs.declared.Step.the-variants.{Start, BeginRead, BeginWrite, Deliver, Lose, Repeat, Advance, Replace, Tell, Remove, GiveUp, BeginContext, Join, Copy}
 use Rattle.protocol.specs.Messages.{messageOf}
 use Rattle.protocol.specs.Steps.{Machine}
 use Rattle.contexts.specs.{numbersOf}
+use Rattle.protocol.specs.Roles.{Role, Reads, Writes, Delivers, Loses, Repeats, GivesUp, Removes, Copies, Other, roleOf}
+use Rattle.linearizability.proofs.Noted.{notedAs, openNotedAs, noted-as}
 use Rattle.linearizability.specs.Run.{beginning, ending, noted, openBegun, openEnded, openGivenUp, openWithout, openNoted}
-use Rattle.read_bound.specs.Follow.{Place, at, gone, hinders}
-use Rattle.read_bound.proofs.Members.{SameChain, chain-self, member-kept, tail-kept}
+use Rattle.read_bound.specs.Follow.{ReadStage, AtSwitch, AtReplica, AtReadReplica, Replied, NoRead, stageOf, Place, at, gone, hindersAs, hinders}
+use Rattle.read_bound.proofs.Members.{SameChain, chain-self, member-kept, read-kept}
 
 -- what a packet of a read of operation o is after k deliveries, with this store: it asks the switch; or it asks a live replica; or the tail; or it is a reply
+abbrev pub StageAs : List ℕ → ℕ → ℕ → ReadStage → Type 0
+StageAs s o k (AtSwitch p) = (p ≡ o) × (k ≤ 0)
+StageAs s o k (AtReplica r p) = (p ≡ o) × (k ≤ 1) × (isMember s r ≡ true)
+StageAs s o k (AtReadReplica r p) = (p ≡ o) × (k ≤ 2) × (isMember s r ≡ true) × (isReadReplica s r ≡ true)
+StageAs s o k (Replied p) = (p ≡ o) × (k ≤ 3)
+StageAs s o k NoRead = ⊥
+
 abbrev pub Stage : List ℕ → ℕ → ℕ → Message → Type 0
-Stage s o k (UnstampedWrite p x v) = ⊥
-Stage s o k (SwitchRead p x) = (p ≡ o) × (k ≤ 0)
-Stage s o k (StampedWrite r w) = ⊥
-Stage s o k (DirectRead r number t p x) = (p ≡ o) × (k ≤ 1) × (isMember s r ≡ true)
-Stage s o k (NormalRead r p x t) = (p ≡ o) × (k ≤ 2) × (isMember s r ≡ true) × (isTail s r ≡ true)
-Stage s o k (Completion x t) = ⊥
-Stage s o k (Reply p v t f) = (p ≡ o) × (k ≤ 3)
-Stage s o k (ContextRead p r) = (p ≡ o) × (k ≤ 0)
-Stage s o k (DirectContext q number t p r) = (p ≡ o) × (k ≤ 1) × (isMember s q ≡ true)
-Stage s o k (NormalContext q p r) = (p ≡ o) × (k ≤ 2) × (isMember s q ≡ true) × (isTail s q ≡ true)
-Stage s o k (ContextReply p r) = (p ≡ o) × (k ≤ 3)
-Stage s o k Unknown = ⊥
+Stage s o k q = StageAs s o k (stageOf q)
 
 -- it has been delivered three times at the most
+most-as : (s : List ℕ) (o k : ℕ) (q : ReadStage) → StageAs s o k q → k ≤ 3
+most-as s o k (AtSwitch p) g = omega (arith, g .1)
+most-as s o k (AtReplica r p) g = omega (arith, g .1)
+most-as s o k (AtReadReplica r p) g = omega (arith, g .1)
+most-as s o k (Replied p) g = g .1
+most-as s o k NoRead g = absurd g
+
 pub stage-most : (s : List ℕ) (o k : ℕ) (msg : Message) → Stage s o k msg → k ≤ 3
-stage-most s o k (UnstampedWrite p x v) g = absurd g
-stage-most s o k (SwitchRead p x) g = omega (arith, g .1)
-stage-most s o k (StampedWrite r w) g = absurd g
-stage-most s o k (DirectRead r number t p x) g = omega (arith, g .1)
-stage-most s o k (NormalRead r p x t) g = omega (arith, g .1)
-stage-most s o k (Completion x t) g = absurd g
-stage-most s o k (Reply p v t f) g = g .1
-stage-most s o k (ContextRead p r) g = omega (arith, g .1)
-stage-most s o k (DirectContext q number t p r) g = omega (arith, g .1)
-stage-most s o k (NormalContext q p r) g = omega (arith, g .1)
-stage-most s o k (ContextReply p r) g = g .1
-stage-most s o k Unknown g = absurd g
+stage-most s o k msg = most-as s o k (stageOf msg)
 
 -- so with the same live replicas, and where no more deliveries are counted
+kept-as : {s t : List ℕ} → SameChain s t → (o k k' : ℕ) → k' ≤ k → (q : ReadStage) → StageAs s o k q → StageAs t o k' q
+kept-as e o k k' l (AtSwitch p) g = (g .0, omega (arith, l, g .1))
+kept-as e o k k' l (AtReplica r p) g = (g .0, omega (arith, l, g .1), member-kept e r ∙ g .2)
+kept-as e o k k' l (AtReadReplica r p) g = (g .0, omega (arith, l, g .1), member-kept e r ∙ g .2, read-kept e r ∙ g .3)
+kept-as e o k k' l (Replied p) g = (g .0, omega (arith, l, g .1))
+kept-as e o k k' l NoRead g = g
+
 pub stage-kept : {s t : List ℕ} → SameChain s t → (o k k' : ℕ) → k' ≤ k → (msg : Message) → Stage s o k msg → Stage t o k' msg
-stage-kept e o k k' l (UnstampedWrite p x v) g = g
-stage-kept e o k k' l (SwitchRead p x) g = (g .0, omega (arith, l, g .1))
-stage-kept e o k k' l (StampedWrite r w) g = g
-stage-kept e o k k' l (DirectRead r number t p x) g = (g .0, omega (arith, l, g .1), member-kept e r ∙ g .2)
-stage-kept e o k k' l (NormalRead r p x t) g = (g .0, omega (arith, l, g .1), member-kept e r ∙ g .2, tail-kept e r ∙ g .3)
-stage-kept e o k k' l (Completion x t) g = g
-stage-kept e o k k' l (Reply p v t f) g = (g .0, omega (arith, l, g .1))
-stage-kept e o k k' l (ContextRead p r) g = (g .0, omega (arith, l, g .1))
-stage-kept e o k k' l (DirectContext q number t p r) g = (g .0, omega (arith, l, g .1), member-kept e q ∙ g .2)
-stage-kept e o k k' l (NormalContext q p r) g = (g .0, omega (arith, l, g .1), member-kept e q ∙ g .2, tail-kept e q ∙ g .3)
-stage-kept e o k k' l (ContextReply p r) g = (g .0, omega (arith, l, g .1))
-stage-kept e o k k' l Unknown g = g
+stage-kept e o k k' l msg = kept-as e o k k' l (stageOf msg)
 
 -- ---- the operation is open, or has finished
 
@@ -94,21 +81,19 @@ finished-ending (FinishedWith p v s) h o f = later f
 finished-ending (FinishedContext p v) h o f = later f
 finished-ending (Refused r) h o f = f
 
+finished-as : (k : Role) (a : Answer) (h : History) (o : ℕ) → Finished h o → Finished (notedAs k a h) o
+finished-as (Reads xs) a h o f = finished-begin a h o _ f
+finished-as (Writes x v) a h o f = finished-begin a h o _ f
+finished-as (Delivers p) a h o f = finished-ending a h o f
+finished-as (Loses p) a h o f = f
+finished-as (Repeats p) a h o f = f
+finished-as (GivesUp p) a h o f = f
+finished-as (Removes r) a h o f = f
+finished-as Copies a h o f = f
+finished-as Other a h o f = f
+
 pub finished-noted : (x : Step) (a : Answer) (h : History) (o : ℕ) → Finished h o → Finished (noted x a h) o
-finished-noted (Start n) a h o f = f
-finished-noted (BeginRead x) a h o f = finished-begin a h o _ f
-finished-noted (BeginWrite x v) a h o f = finished-begin a h o _ f
-finished-noted (Deliver p choice) a h o f = finished-ending a h o f
-finished-noted (Lose p) a h o f = f
-finished-noted (Repeat p) a h o f = f
-finished-noted (Advance r) a h o f = f
-finished-noted (Replace number) a h o f = f
-finished-noted (Tell r) a h o f = f
-finished-noted (Remove r) a h o f = f
-finished-noted (GiveUp p) a h o f = f
-finished-noted (BeginContext x) a h o f = finished-begin a h o _ f
-finished-noted Join a h o f = f
-finished-noted Copy a h o f = f
+finished-noted x a h o f = rw (noted-as x a h [] .0) (finished-as (roleOf x) a h o f)
 
 -- another operation stays in the list
 in-open : (o p : ℕ) (l : List ℕ) → o ∈ l → (p ≡ o → ⊥) → o ∈ openWithout p l
@@ -147,39 +132,20 @@ given-up p (FinishedContext q v) l o n i = in-open o p l i n
 given-up p (Refused r) l o n i = i
 
 -- a step that does not give the operation up
+heeded-as : (m : Machine) (i : ℕ) (k : Role) (a : Answer) (h : History) (l : List ℕ) (o : ℕ) → hindersAs m o k i ≡ false → o ∈ l → Heeded (notedAs k a h) (openNotedAs k a h l) o
+heeded-as m i (Reads xs) a h l o d j = inl (begun-open a h l o j)
+heeded-as m i (Writes x v) a h l o d j = inl (begun-open a h l o j)
+heeded-as m i (Delivers p) a h l o d j = ended-heeded a h l o j
+heeded-as m i (Loses p) a h l o d j = inl j
+heeded-as m i (Repeats p) a h l o d j = inl j
+heeded-as m i (GivesUp p) a h l o d j = inl (given-up p a l o (eqb-false p o d) j)
+heeded-as m i (Removes r) a h l o d j = inl j
+heeded-as m i Copies a h l o d j = inl j
+heeded-as m i Other a h l o d j = inl j
+
 pub heeded-noted : (m : Machine) (i : ℕ) (x : Step) (a : Answer) (h : History) (l : List ℕ) (o : ℕ) → hinders m o x i ≡ false → Heeded h l o → Heeded (noted x a h) (openNoted x a h l) o
 heeded-noted m i x a h l o d (inr f) = inr (finished-noted x a h o f)
-heeded-noted m i (Start n) a h l o d (inl j) = inl j
-heeded-noted m i (BeginRead x) a h l o d (inl j) = inl (begun-open a h l o j)
-heeded-noted m i (BeginWrite x v) a h l o d (inl j) = inl (begun-open a h l o j)
-heeded-noted m i (Deliver p choice) a h l o d (inl j) = ended-heeded a h l o j
-heeded-noted m i (Lose p) a h l o d (inl j) = inl j
-heeded-noted m i (Repeat p) a h l o d (inl j) = inl j
-heeded-noted m i (Advance r) a h l o d (inl j) = inl j
-heeded-noted m i (Replace number) a h l o d (inl j) = inl j
-heeded-noted m i (Tell r) a h l o d (inl j) = inl j
-heeded-noted m i (Remove r) a h l o d (inl j) = inl j
-heeded-noted m i (GiveUp p) a h l o d (inl j) = inl (given-up p a l o (eqb-false p o d) j)
-heeded-noted m i (BeginContext x) a h l o d (inl j) = inl (begun-open a h l o j)
-heeded-noted m i Join a h l o d (inl j) = inl j
-heeded-noted m i Copy a h l o d (inl j) = inl j
-
--- a refused step opens and closes none
-pub open-refused : (x : Step) (r : Refusal) (h : History) (l : List ℕ) → openNoted x (Refused r) h l ≡ l
-open-refused (Start n) r h l = refl
-open-refused (BeginRead x) r h l = refl
-open-refused (BeginWrite x v) r h l = refl
-open-refused (Deliver p choice) r h l = refl
-open-refused (Lose p) r h l = refl
-open-refused (Repeat p) r h l = refl
-open-refused (Advance a) r h l = refl
-open-refused (Replace number) r h l = refl
-open-refused (Tell a) r h l = refl
-open-refused (Remove a) r h l = refl
-open-refused (GiveUp o) r h l = refl
-open-refused (BeginContext x) r h l = refl
-open-refused Join r h l = refl
-open-refused Copy r h l = refl
+heeded-noted m i x a h l o d (inl j) = let e = noted-as x a h l in rw (e .0, e .1) (heeded-as m i (roleOf x) a h l o d j)
 
 -- ---- the followed packet
 

@@ -12,8 +12,8 @@ use Rattle.protocol.specs.Answers.{isAccepted}
 use Rattle.protocol.specs.declared.Message.{Message}
 use Rattle.protocol.specs.declared.Message.the-variants.{UnstampedWrite, SwitchRead, StampedWrite, DirectRead, NormalRead, Completion, Reply, ContextRead, DirectContext, NormalContext, ContextReply, Unknown}
 use Rattle.protocol.specs.declared.Step.{Step}
-use Rattle.protocol.specs.declared.Step.the-variants.{Start, BeginRead, BeginWrite, Deliver, Lose, Repeat, Advance, Replace, Tell, Remove, GiveUp, BeginContext, Join, Copy}
 use Rattle.protocol.specs.Messages.{messageOf}
+use Rattle.protocol.specs.Roles.{Role, Reads, Writes, Delivers, Loses, Repeats, GivesUp, Removes, Copies, Other, roleOf}
 use Rattle.protocol.specs.Steps.{Machine, answerTo, after}
 
 -- ---- where the packet stands
@@ -23,7 +23,7 @@ pub data Place : Type 0 where
   at : ℕ → Place
   gone : Place
 
--- the position of a packet when the one at position p has left the list: 'the later ones move up'
+-- the position of a packet when the one at position p has left the list: 'Taking a packet out moves each later one down one place'
 abbrev pub movedUp : ℕ → ℕ → ℕ
 movedUp p i = cond (ltb p i) (i - 1) i
 
@@ -32,21 +32,19 @@ abbrev pub becomes : ℕ → ℕ → Place
 becomes before now = cond (ltb now before) gone (at (now - 1))
 
 -- one accepted step later, where so many waited before it and so many do now
+abbrev pub placeAs : Role → ℕ → ℕ → ℕ → Place
+placeAs (Reads xs) before now i = at i
+placeAs (Writes x v) before now i = at i
+placeAs (Delivers p) before now i = cond (eqb p i) (becomes before now) (at (movedUp p i))
+placeAs (Loses p) before now i = cond (eqb p i) gone (at (movedUp p i))
+placeAs (Repeats p) before now i = at i
+placeAs (GivesUp o) before now i = at i
+placeAs (Removes r) before now i = at i
+placeAs Copies before now i = at i
+placeAs Other before now i = at i
+
 abbrev pub placeNext : Step → ℕ → ℕ → ℕ → Place
-placeNext (Start n) before now i = at i
-placeNext (BeginRead x) before now i = at i
-placeNext (BeginWrite x v) before now i = at i
-placeNext (Deliver p choice) before now i = cond (eqb p i) (becomes before now) (at (movedUp p i))
-placeNext (Lose p) before now i = cond (eqb p i) gone (at (movedUp p i))
-placeNext (Repeat p) before now i = at i
-placeNext (Advance r) before now i = at i
-placeNext (Replace number) before now i = at i
-placeNext (Tell r) before now i = at i
-placeNext (Remove r) before now i = at i
-placeNext (GiveUp o) before now i = at i
-placeNext (BeginContext x) before now i = at i
-placeNext Join before now i = at i
-placeNext Copy before now i = at i
+placeNext x before now i = placeAs (roleOf x) before now i
 
 -- one step later; a refused step moves nothing
 abbrev pub followed : Machine → Step → Place → Place
@@ -55,21 +53,19 @@ followed m x gone = gone
 
 -- ---- its deliveries
 
+abbrev pub deliversAs : Role → ℕ → Bool
+deliversAs (Reads xs) i = false
+deliversAs (Writes x v) i = false
+deliversAs (Delivers p) i = eqb p i
+deliversAs (Loses p) i = false
+deliversAs (Repeats p) i = false
+deliversAs (GivesUp o) i = false
+deliversAs (Removes r) i = false
+deliversAs Copies i = false
+deliversAs Other i = false
+
 abbrev pub delivers : Step → ℕ → Bool
-delivers (Start n) i = false
-delivers (BeginRead x) i = false
-delivers (BeginWrite x v) i = false
-delivers (Deliver p choice) i = eqb p i
-delivers (Lose p) i = false
-delivers (Repeat p) i = false
-delivers (Advance r) i = false
-delivers (Replace number) i = false
-delivers (Tell r) i = false
-delivers (Remove r) i = false
-delivers (GiveUp o) i = false
-delivers (BeginContext x) i = false
-delivers Join i = false
-delivers Copy i = false
+delivers x i = deliversAs (roleOf x) i
 
 -- 1 for an accepted delivery of the packet, 0 for every other step
 abbrev pub deliveredBy : Machine → Step → Place → ℕ
@@ -79,21 +75,19 @@ deliveredBy m x gone = 0
 -- ---- what must not come between
 
 -- 'it is not lost, no replica is removed or joins, and the operation isn't given up': a replica joins by the sixteenth copy. o is the operation, i the packet's position
+abbrev pub hindersAs : Machine → ℕ → Role → ℕ → Bool
+hindersAs m o (Reads xs) i = false
+hindersAs m o (Writes x v) i = false
+hindersAs m o (Delivers p) i = false
+hindersAs m o (Loses p) i = eqb p i
+hindersAs m o (Repeats p) i = false
+hindersAs m o (GivesUp p) i = eqb p o
+hindersAs m o (Removes r) i = true
+hindersAs m o Copies i = eqb (copiesMade (m .store) + 1) limits.copies
+hindersAs m o Other i = false
+
 abbrev pub hinders : Machine → ℕ → Step → ℕ → Bool
-hinders m o (Start n) i = false
-hinders m o (BeginRead x) i = false
-hinders m o (BeginWrite x v) i = false
-hinders m o (Deliver p choice) i = false
-hinders m o (Lose p) i = eqb p i
-hinders m o (Repeat p) i = false
-hinders m o (Advance r) i = false
-hinders m o (Replace number) i = false
-hinders m o (Tell r) i = false
-hinders m o (Remove r) i = true
-hinders m o (GiveUp p) i = eqb p o
-hinders m o (BeginContext x) i = false
-hinders m o Join i = false
-hinders m o Copy i = eqb (copiesMade (m .store) + 1) limits.copies
+hinders m o x i = hindersAs m o (roleOf x) i
 
 -- a refused step hinders nothing, and nothing hinders a packet that is gone
 abbrev pub isHindered : Machine → ℕ → Step → Place → Bool
@@ -123,20 +117,38 @@ mostDeliveries = 4
 
 -- ---- where it begins
 
+-- what a message is to a read: it asks the switch, a replica, or the one that answers normal reads for an operation, or answers one; or it is of no read
+pub data ReadStage : Type 0 where
+  AtSwitch : ℕ → ReadStage
+  AtReplica : ℕ → ℕ → ReadStage
+  AtReadReplica : ℕ → ℕ → ReadStage
+  Replied : ℕ → ReadStage
+  NoRead : ReadStage
+
+abbrev pub stageOf : Message → ReadStage
+stageOf (UnstampedWrite p x v) = NoRead
+stageOf (SwitchRead p x) = AtSwitch p
+stageOf (StampedWrite r w) = NoRead
+stageOf (DirectRead r number t p x) = AtReplica r p
+stageOf (NormalRead r p x t) = AtReadReplica r p
+stageOf (Completion x t) = NoRead
+stageOf (Reply p v t f) = Replied p
+stageOf (ContextRead p r) = AtSwitch p
+stageOf (DirectContext q number t p r) = AtReplica q p
+stageOf (NormalContext q p r) = AtReadReplica q p
+stageOf (ContextReply p r) = Replied p
+stageOf Unknown = NoRead
+
 -- the message asks the switch for a read of operation o, of one object or several
+abbrev pub asksAs : ℕ → ReadStage → Bool
+asksAs o (AtSwitch p) = eqb p o
+asksAs o (AtReplica r p) = false
+asksAs o (AtReadReplica r p) = false
+asksAs o (Replied p) = false
+asksAs o NoRead = false
+
 abbrev pub asksFor : ℕ → Message → Bool
-asksFor o (UnstampedWrite p x v) = false
-asksFor o (SwitchRead p x) = eqb p o
-asksFor o (StampedWrite r w) = false
-asksFor o (DirectRead r number t p x) = false
-asksFor o (NormalRead r p x t) = false
-asksFor o (Completion x t) = false
-asksFor o (Reply p v t f) = false
-asksFor o (ContextRead p r) = eqb p o
-asksFor o (DirectContext q number t p r) = false
-asksFor o (NormalContext q p r) = false
-asksFor o (ContextReply p r) = false
-asksFor o Unknown = false
+asksFor o q = asksAs o (stageOf q)
 
 -- such a packet waits at position i, and operation o is open
 pub record ReadAtSwitch (m : Machine) (i o : ℕ) : Type 0 where

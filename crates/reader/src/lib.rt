@@ -9,6 +9,7 @@ mod cursor;
 use contexts::Objects;
 pub use cursor::Reader;
 pub use cursor::read_at;
+use protocol::Setup;
 use protocol::Step;
 use records::Found;
 use records::GIVE_UP_KIND;
@@ -81,7 +82,7 @@ fn step_of(kind: usize, content: &[u8]) -> Step
     ensures { λ r. ⌜ r ≡ stepOf kind (now (content .entry)) ⌝ }
 {
     match kind {
-        0 => Step::Start(byte_at(content, 0)),
+        0 => Step::Start(Setup::Chain(byte_at(content, 0))),
         1 => Step::BeginRead(two_at(content, 0)),
         2 => Step::BeginWrite(two_at(content, 0), four_at(content, 2)),
         3 => Step::Deliver(two_at(content, 0), byte_at(content, 2)),
@@ -92,9 +93,10 @@ fn step_of(kind: usize, content: &[u8]) -> Step
         8 => Step::Tell(byte_at(content, 0)),
         9 => Step::Remove(byte_at(content, 0)),
         10 => Step::GiveUp(operation_in(content)),
+        11 => Step::BeginContext(objects_in(content)),
         12 => Step::Join,
         13 => Step::Copy,
-        _ => Step::BeginContext(objects_in(content)),
+        _ => Step::Start(Setup::Missing),
     }
 }
 

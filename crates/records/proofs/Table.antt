@@ -1,7 +1,7 @@
 -- The table of the steps, row by row: a content has a length of its kind, is read back as it was written, and, but for a give-up of two bytes, written back as
 -- it was read; and so is a tag.
 use mathlib.Core.Path.{_≡_, refl, sym, ap, _∙_, subst}
-use mathlib.Core.Bool.{Bool, true, false, cond, false≢true}
+use mathlib.Core.Bool.{Bool, true, false, cond, not, false≢true}
 use mathlib.Core.List.{List, [], _∷_, _++_}
 use Prim.Native.Nat.{ℕ, zero, suc, _+_, _<_, _≤_}
 use native.Mathlib.Omega.{arith}
@@ -11,6 +11,7 @@ use borrow.Author.Tests.{leb-true, eqb-true, eqb-false, ne-eqb}
 use denote.Enum.Declared.{tagOf as variantOf}
 use types.Run.{OneOf, miss}
 use Rattle.protocol.proofs.Step as step
+use Rattle.protocol.specs.declared.Setup.the-variants.{Missing, Chain}
 use Rattle.protocol.specs.declared.Step.{Step}
 use Rattle.protocol.specs.declared.Step.the-variants.{Start, BeginRead, BeginWrite, Deliver, Lose, Repeat, Advance, Replace, Tell, Remove, GiveUp, BeginContext, Join, Copy}
 use Rattle.records.specs.Records.{byteAt, twoAt, fourAt, twoBytes, fourBytes, noStep, kindOfTag, tagOf, contentLength, isShortGiveUp, isLength, kindOf, contentOf, headerOf, recordOf, operationIn, stepOf, isWritable, AllBytes, InRange}
@@ -87,7 +88,8 @@ Row s = (kindOf s < 14) × (isLength (kindOf s) (length (contentOf s)) ≡ true)
 
 pub row : (s : Step) → isWritable s ≡ true → Row s
 unfolding twoBytes fourBytes twoAt fourAt contentLength isShortGiveUp isLength operationIn stepOf
-row (Start n) w = (lit< tt, refl, refl)
+row (Start Missing) w = absurd (false≢true w)
+row (Start (Chain n)) w = (lit< tt, refl, refl)
 row (BeginRead object) w = (lit< tt, refl, ap BeginRead (two-read object))
 row (BeginWrite object value) w = (lit< tt, refl, λ j. BeginWrite (two-read object j) (four-read value j))
 row (Deliver position choice) w = (lit< tt, refl, ap (λ (a : ℕ). Deliver a choice) (two-read position))
@@ -176,12 +178,17 @@ pub kind-read : (k : ℕ) → k < 14 → (c : List ℕ) → kindOf (stepOf k c) 
 unfolding stepOf
 kind-read k h c = eqb-true _ _ (tested 14 (λ k. eqb (kindOf (stepOf k c)) k) refl k h)
 
+-- a test beside which another stands, which fails
+beside : (a b : Bool) → a ≡ false → cond a true b ≡ true → b ≡ true
+beside true b fails e = absurd (false≢true (sym fails))
+beside false b fails e = e
+
 -- whatever the bytes are, the step can be written
 pub writable-read : (k : ℕ) → k < 14 → (c : List ℕ) → isLength k (length c) ≡ true → isWritable (stepOf k c) ≡ true
 unfolding isLength stepOf
 writable-read =
     by-kind (λ k. (c : List ℕ) → isLength k (length c) ≡ true → isWritable (stepOf k c) ≡ true)
-    (λ k h c e. rw (ne-eqb k 11 (h .1)) at (tested 14 (λ k. cond (eqb k 11) true (isWritable (stepOf k c))) refl k (h .0)))
+    (λ k h c e. beside (eqb k 11) _ (ne-eqb k 11 (h .1)) (tested 14 (λ k. cond (eqb k 11) true (isWritable (stepOf k c))) refl k (h .0)))
     objects-naming
 
 -- ---- tags
@@ -222,9 +229,10 @@ record-long s = omega (arith, record-size s)
 abbrev variants : List ℕ
 variants = 0 ∷ 1 ∷ 2 ∷ 3 ∷ 4 ∷ 5 ∷ 6 ∷ 7 ∷ 8 ∷ 9 ∷ 10 ∷ 12 ∷ 13 ∷ []
 
-pub in-table : (s : Step) → OneOf variants (variantOf step.the-type s) → (isWritable s ≡ true) × (length (contentOf s) ≡ contentLength (kindOf s))
+pub in-table : (s : Step) → OneOf variants (variantOf step.the-type s) → (isWritable s ≡ not (eqb (kindOf s) noStep)) × (length (contentOf s) ≡ contentLength (kindOf s))
 unfolding twoBytes fourBytes contentLength
-in-table (Start n) i = (refl, refl)
+in-table (Start Missing) i = (refl, refl)
+in-table (Start (Chain n)) i = (refl, refl)
 in-table (BeginRead object) i = (refl, refl)
 in-table (BeginWrite object value) i = (refl, refl)
 in-table (Deliver position choice) i = (refl, refl)

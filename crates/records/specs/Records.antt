@@ -8,6 +8,8 @@ use Rattle.contexts.specs.declared.Objects.{Objects}
 use Rattle.contexts.specs.{isCount, isNaming}
 use Rattle.protocol.specs.Answers.{refusalNumber}
 use Rattle.protocol.specs.declared.Refusal.{Refusal}
+use Rattle.protocol.specs.declared.Setup.{Setup}
+use Rattle.protocol.specs.declared.Setup.the-variants.{Missing, Chain}
 use Rattle.protocol.specs.declared.Step.{Step}
 use Rattle.protocol.specs.declared.Step.the-variants.{Start, BeginRead, BeginWrite, Deliver, Lose, Repeat, Advance, Replace, Tell, Remove, GiveUp, BeginContext, Join, Copy}
 use Rattle.records.specs.declared.Found.{Found}
@@ -75,9 +77,14 @@ isShortGiveUp k n = cond (eqb k giveUpKind) (eqb n 2) false
 unfoldable pub isLength : ℕ → ℕ → Bool
 isLength k n = cond (eqb k contextKind) (isContextLength n) (cond (isShortGiveUp k n) true (eqb n (contentLength k)))
 
+-- the kind of a start; where none is set up it has no record
+abbrev pub setupKind : Setup → ℕ
+setupKind Missing = noStep
+setupKind (Chain n) = 0
+
 -- the kind of each step
 abbrev pub kindOf : Step → ℕ
-kindOf (Start n) = 0
+kindOf (Start b) = setupKind b
 kindOf (BeginRead object) = 1
 kindOf (BeginWrite object value) = 2
 kindOf (Deliver position choice) = 3
@@ -105,8 +112,12 @@ unfoldable pub objectBytes : Objects → List ℕ
 objectBytes x = take (2 * x .count) (placeBytes x)
 
 -- the column 'Content and effect': what stands in the content
+abbrev pub setupContent : Setup → List ℕ
+setupContent Missing = []
+setupContent (Chain n) = n ∷ []
+
 abbrev pub contentOf : Step → List ℕ
-contentOf (Start n) = n ∷ []
+contentOf (Start b) = setupContent b
 contentOf (BeginRead object) = twoBytes object
 contentOf (BeginWrite object value) = twoBytes object ++ fourBytes value
 contentOf (Deliver position choice) = twoBytes position ++ choice ∷ []
@@ -152,7 +163,7 @@ operationIn c = cond (isShortGiveUp giveUpKind (length c)) (twoAt c 0) (fourAt c
 -- the step of a kind with this content
 unfoldable pub stepOf : ℕ → List ℕ → Step
 stepOf k c =
-    cond (eqb k 0) (Start (byteAt c 0))
+    cond (eqb k 0) (Start (Chain (byteAt c 0)))
     (cond (eqb k 1) (BeginRead (twoAt c 0))
     (cond (eqb k 2) (BeginWrite (twoAt c 0) (fourAt c 2))
     (cond (eqb k 3) (Deliver (twoAt c 0) (byteAt c 2))
@@ -163,7 +174,7 @@ stepOf k c =
     (cond (eqb k 8) (Tell (byteAt c 0))
     (cond (eqb k 9) (Remove (byteAt c 0))
     (cond (eqb k 10) (GiveUp (operationIn c))
-    (cond (eqb k 12) Join (cond (eqb k 13) Copy (BeginContext (objectsIn c))))))))))))))
+    (cond (eqb k 11) (BeginContext (objectsIn c)) (cond (eqb k 12) Join (cond (eqb k 13) Copy (Start Missing))))))))))))))
 
 -- the record of a kind whose tag is at the position; refusal 1: 'wrong length, input ends early'
 unfoldable pub recordOfKind : ℕ → List ℕ → ℕ → Found
@@ -204,9 +215,10 @@ nextAt l at = cond (eqb at 0) (nextOf true (recordAt l at)) (cond (leb (length l
 
 -- ---- the writer
 
--- Req 02: 'another number of objects in a step to be .. written, is refusal 1, before .. 15'
+-- a start that sets nothing up has no record; Req 02: 'another number of objects in a step to be .. written, is refusal 1, before .. 15'
 abbrev pub isWritable : Step → Bool
-isWritable (Start n) = true
+isWritable (Start Missing) = false
+isWritable (Start (Chain n)) = true
 isWritable (BeginRead object) = true
 isWritable (BeginWrite object value) = true
 isWritable (Deliver position choice) = true
@@ -254,7 +266,8 @@ AllBytes l = (i : ℕ) → byteAt l i < 256
 
 -- the step's numbers fit the widths that the records give them
 abbrev pub InRange : Step → Type 0
-InRange (Start n) = n < 256
+InRange (Start Missing) = Unit {0}
+InRange (Start (Chain n)) = n < 256
 InRange (BeginRead object) = object < 65536
 InRange (BeginWrite object value) = (object < 65536) × (value < 4294967296)
 InRange (Deliver position choice) = (position < 65536) × (choice < 256)

@@ -1,6 +1,7 @@
 // The table of document 01, 'Steps and their records', by kinds of step: 0 is the start, and 1 to 13 have their tags' numbers.
 ghost use mathlib.Core.Path.{_≡_};
-ghost use Rattle.records.specs.Records.{kindOfTag, tagOf, contentLength, isContextLength, isShortGiveUp, isLength, kindOf};
+ghost use Rattle.records.specs.Records.{kindOfTag, tagOf, contentLength, isContextLength, isShortGiveUp, isLength, setupKind, kindOf};
+use protocol::Setup;
 use protocol::Step;
 
 // The kinds of step.
@@ -79,11 +80,20 @@ pub fn tag_of(kind: usize) -> u8
     }
 }
 
+fn setup_kind(b: Setup) -> usize
+    ensures { λ r. ⌜ r ≡ setupKind b ⌝ }
+{
+    match b {
+        Setup::Missing => NO_STEP,
+        Setup::Chain(_) => 0,
+    }
+}
+
 pub fn kind_of(step: Step) -> usize
     ensures { λ r. ⌜ r ≡ kindOf step ⌝ }
 {
     match step {
-        Step::Start(_) => 0,
+        Step::Start(b) => setup_kind(b),
         Step::BeginRead(_) => 1,
         Step::BeginWrite(_, _) => 2,
         Step::Deliver(_, _) => 3,

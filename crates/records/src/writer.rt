@@ -4,14 +4,17 @@ ghost use Prim.Native.Nat.{_+_, _/_, _%_, _≤_};
 ghost use mathlib.Core.List.{_∷_, _++_};
 ghost use lib.ListN.{length, take, replicate};
 ghost use lib.Seq.{paste, sets};
+ghost use Rattle.protocol.specs.declared.Step.the-variants.{Start};
 ghost use Rattle.records.specs.Records.{contextKind, contentLength, headerOf, twoBytes, fourBytes, placeBytes, objectBytes, recordOf, isWritable, writtenAt, bufferAfter};
 use crate::Written;
 use crate::kinds::CONTEXT_KIND;
+use crate::kinds::NO_STEP;
 use crate::kinds::content_length;
 use crate::kinds::kind_of;
 use crate::kinds::tag_of;
 use crate::within;
 use contexts::Objects;
+use protocol::Setup;
 use protocol::Step;
 
 // The length of the longest record.
@@ -110,13 +113,23 @@ fn objects(x: Objects) -> [u8; LONGEST]
     with_two(bytes, 17, x.eighth)
 }
 
+// The record of a start, with other bytes after it.
+fn setup_record(b: Setup) -> [u8; LONGEST]
+    ensures { λ r. ⌜ take (length (recordOf (Start b))) r ≡ recordOf (Start b) ⌝ }
+{
+    match b {
+        Setup::Missing => header(NO_STEP, 0),
+        Setup::Chain(n) => one_byte(0, n),
+    }
+}
+
 // The record of a step, with other bytes after it.
 fn record_of(step: Step) -> [u8; LONGEST]
     ensures { λ r. ⌜ take (length (recordOf step)) r ≡ recordOf step ⌝ }
 {
     let kind = kind_of(step);
     match step {
-        Step::Start(n) => one_byte(kind, n),
+        Step::Start(b) => setup_record(b),
         Step::BeginRead(object) => two_bytes(kind, object),
         Step::BeginWrite(object, value) => two_and_four(kind, object, value),
         Step::Deliver(position, choice) => two_and_one(kind, position, choice),
@@ -143,13 +156,13 @@ pub fn record_length(step: Step) -> usize
     }
 }
 
-// Whether a step has a record. A read of a whole context has none with another number of objects than 2 to 8.
+// Whether a step has a record. A start that sets nothing up has none, and a read of a whole context none with another number of objects than 2 to 8.
 pub fn is_writable(step: Step) -> bool
     ensures { λ r. ⌜ r ≡ isWritable step ⌝ }
 {
     match step {
         Step::BeginContext(x) => contexts::is_naming(x),
-        _ => true,
+        _ => kind_of(step) != NO_STEP,
     }
 }
 

@@ -27,11 +27,7 @@ use waiting::Edit;
 fn answers(at: usize, w: Write) -> Edit
     ensures { λ r. ⌜ r ≡ answering at w ⌝ }
 {
-    decisions::take_out_add_two(
-        at,
-        messages::packet_of(Message::Reply(w.operation, w.value, 0, NONE as HeldFreshness)),
-        messages::packet_of(Message::Completion(w.object, w.stamp)),
-    )
+    decisions::take_out_add_two(at, messages::reply_to(w), messages::completion_of(w))
 }
 
 // The tail takes a write, and a newcomer that has its copy of the object gets it too.
@@ -93,7 +89,10 @@ pub fn direct_read(
         let v = store::read_value(store, q, x);
         return decisions::pass_on(at, Message::Reply(o, v, 0, NONE as HeldFreshness));
     }
-    decisions::pass_on(at, Message::NormalRead(chain::tail_number(store), o, x, 0))
+    decisions::pass_on(
+        at,
+        Message::NormalRead(chain::read_replica_number(store), o, x, 0),
+    )
 }
 
 // What a read that carries the stamp of a pending write says of it, from the stamp of the value that it is answered with.
@@ -131,10 +130,10 @@ pub fn normal_read(
     if n <= place {
         return decisions::drop_packet(at);
     }
-    if place + 1 != n {
+    if !chain::is_read_place(store, place) {
         return decisions::pass_on(
             at,
-            Message::NormalRead(chain::tail_number(store), o, x, carried),
+            Message::NormalRead(chain::read_replica_number(store), o, x, carried),
         );
     }
     let t = chain::member(store, place);

@@ -8,7 +8,7 @@ use Rattle.store.specs.{valueAt, stampAt}
 use Rattle.chain.specs.{isMember, tableOf, numberIn}
 use Rattle.joins.specs.{isJoining, copiesMade, newcomer, newcomerNumber, isNewcomer, isCopied}
 
--- Req 04: 'only live and joining replicas have tables', and a newcomer has an object from its copy on. The table that has the replica's value of an object, or 0
+-- Req 04: only live and joining replicas have tables, and a newcomer has an object from its copy on. The table that has the replica's value of an object, or 0
 unfoldable pub tableFor : List ℕ → ℕ → ℕ → ℕ
 tableFor s r o =
     cond (leb limits.objects o) 0
@@ -27,7 +27,7 @@ newcomerOf s = cond (isJoining s) (newcomerNumber s) 0
 unfoldable pub copiesOf : List ℕ → ℕ
 copiesOf s = cond (isJoining s) (copiesMade s) 0
 
--- Req 04: 'the live replicas in chain order', 0 behind the last, 'the newcomer's number and the copies made'
+-- Req 04: the live replicas in chain order, 0 behind the last, then the newcomer's number and the copies made
 abbrev pub chainOf : List ℕ → List ℕ
 chainOf s =
     numberIn s 0 ∷ numberIn s 1 ∷ numberIn s 2 ∷ numberIn s 3 ∷ numberIn s 4 ∷ numberIn s 5 ∷ numberIn s 6 ∷ numberIn s 7 ∷

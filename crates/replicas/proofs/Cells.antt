@@ -18,7 +18,8 @@ use Rattle.store.specs.{highestCell, permitCell, appliedCell, lastNumberCell, j
 use Rattle.store.specs.{permittedBy, appliedBy, entryAt, valueAt, stampAt, logged, tabled, raised}
 use Rattle.chain.specs.{chainPlace, permitting, removed}
 use Rattle.replicas.specs.Replicas.{nextPosition, applying}
-use Rattle.chain.proofs.Members.{by-test, count-most}
+use Rattle.chain.proofs.Members.{count-most}
+use Rattle.lists.proofs.Tests.{by-test}
 
 -- as many cells as the code's type gives
 abbrev pub SizedStore : List ℕ → Type 0
@@ -479,7 +480,6 @@ pub sized-removed : (s : List ℕ) (r : ℕ) → SizedStore s → SizedStore (re
 unfolding removed
 sized-removed s r h =
     by-test SizedStore (ltb (chainPlace s r) (liveCount s))
-    (set (set (moves 0 s (1 + chainPlace s r) (7 - chainPlace s r)) 8 (orderAt s (chainPlace s r))) 0 (liveCount s - 1)) s
     (λ e. simp (length-set, length-moves) h) (λ e. h)
 
 module _ (s : List ℕ) (r : ℕ) where
@@ -487,7 +487,7 @@ module _ (s : List ℕ) (r : ℕ) where
   pub kept-removed : (i : ℕ) → 9 ≤ i → getD (removed s (chainPlace s r)) i 0 ≡ getD s i 0
   unfolding removed
   kept-removed i h =
-      by-test (λ t. getD t i 0 ≡ getD s i 0) (ltb (chainPlace s r) (liveCount s)) (set (set closed 8 (orderAt s (chainPlace s r))) 0 (liveCount s - 1)) s
+      by-test (λ t. getD t i 0 ≡ getD s i 0) (ltb (chainPlace s r) (liveCount s))
       (λ e.
       getD-set-other (set closed 8 (orderAt s (chainPlace s r))) 0 i (liveCount s - 1) 0 (λ q. omega arith) ∙
       getD-set-other closed 8 i (orderAt s (chainPlace s r)) 0 (λ q. omega arith) ∙

@@ -1,31 +1,20 @@
 -- The laws of what the replicas do, for the crates above: what each test says.
 use mathlib.Core.Path.{_≡_, refl}
-use mathlib.Core.Bool.{Bool, true, false, cond}
-use mathlib.Core.List.{List}
+use mathlib.Core.Bool.{Bool, true, false, not}
+use mathlib.Core.List.{List, List·Memᴰ}
 use Prim.Native.Nat.{ℕ, zero, suc, _-_, _≤_, _<_}
 use native.Mathlib.Omega.{arith}
 use lib.Dec.{eqb, leb, ltb}
 use borrow.Author.Tests.{eq-eqb, ne-eqb, eqb-true, ltb-true, leb-false}
 use Rattle.limits.specs as limits
+use Rattle.lists.proofs.Tests.{untrue, two-pass, second-passes}
+use Rattle.lists.proofs.AllOf.{all-member}
 use Rattle.stamp.specs.Stamps.{isAbove}
 use Rattle.stamp.proofs.Laws.{above-true, above-false}
 use Rattle.store.specs.declared.Write.{Write}
 use Rattle.store.specs.{highestOf, permittedBy, appliedBy, entryAt, stampAt, logged}
 use Rattle.chain.specs.{chainPlace, memberAt, headOf, tailOf}
-use Rattle.replicas.specs.Replicas.{linkedWrites, accepts, applying, taking, pendingAt, pending, oldest, answersDirect}
-
-no-test : {A : Type 0} → false ≡ true → A
-no-test e = absurd (let z : _≡_ {A = ℕ} 0 1 = cc in omega arith)
-
--- two tests in a row that pass
-both : (a b : Bool) → cond a b false ≡ true → (a ≡ true) × (b ≡ true)
-both true b e = (refl, e)
-both false b e = no-test e
-
--- one that fails and one that passes
-but : (a b : Bool) → cond a false b ≡ true → (a ≡ false) × (b ≡ true)
-but true b e = no-test e
-but false b e = (refl, e)
+use Rattle.replicas.specs.Replicas.{linkedWrites, accepts, applying, taking, pendingAt, pending, oldest, isNotAbove, answersDirect}
 
 -- ---- a stamped write
 
@@ -38,8 +27,8 @@ Accepted s r stamp =
 accepted : (s : List ℕ) (r stamp : ℕ) → accepts s r stamp ≡ true → Accepted s r stamp
 unfolding accepts
 accepted s r stamp e =
-    let above = both (isAbove stamp (highestOf s r)) _ e in
-    let room = but (leb limits.linked (linkedWrites s)) _ (above .1) in
+    let above = two-pass (isAbove stamp (highestOf s r)) _ e in
+    let room = second-passes (leb limits.linked (linkedWrites s)) _ (above .1) in
     (above .0, room .0, room .1)
 
 pub accepts-above : (s : List ℕ) (r stamp : ℕ) → accepts s r stamp ≡ true → highestOf s r < stamp
@@ -79,15 +68,21 @@ pending-is s r h = pending-behind s r (pending-after s r h)
 
 -- ---- a direct read
 
-pub answers-permit : (s : List ℕ) (r o number carried : ℕ) → answersDirect s r o number carried ≡ true → permittedBy s r ≡ number
+pub answers-permit : (s : List ℕ) (r number carried : ℕ) (xs : List ℕ) → answersDirect s r number carried xs ≡ true → permittedBy s r ≡ number
 unfolding answersDirect
-answers-permit s r o number carried e = eqb-true (permittedBy s r) number (both (eqb (permittedBy s r) number) _ e .0)
+answers-permit s r number carried xs e = eqb-true (permittedBy s r) number (two-pass (eqb (permittedBy s r) number) _ e .0)
 
-pub answers-stamp : (s : List ℕ) (r o number carried : ℕ) → answersDirect s r o number carried ≡ true → stampAt s r o ≤ carried
+not-above : (s : List ℕ) (r carried x : ℕ) → isNotAbove s r carried x ≡ true → stampAt s r x ≤ carried
+unfolding isNotAbove
+not-above s r carried x = go (isAbove (stampAt s r x) carried) refl
+  where
+    go : (b : Bool) → isAbove (stampAt s r x) carried ≡ b → not b ≡ true → stampAt s r x ≤ carried
+    go true a e = untrue e
+    go false a e = above-false (stampAt s r x) carried a
+
+pub answers-stamp : (s : List ℕ) (r number carried : ℕ) (xs : List ℕ) → answersDirect s r number carried xs ≡ true → (x : ℕ) → List·Memᴰ x xs → stampAt s r x ≤ carried
 unfolding answersDirect
-answers-stamp s r o number carried e =
-    let rest = both (eqb (permittedBy s r) number) _ e .1 in
-    above-false (stampAt s r o) carried (but (isAbove (stampAt s r o) carried) true rest .0)
+answers-stamp s r number carried xs e x i = not-above s r carried x (all-member (isNotAbove s r carried) xs x (two-pass (eqb (permittedBy s r) number) _ e .1) i)
 
 -- ---- what the moves are made of
 

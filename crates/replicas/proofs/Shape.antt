@@ -116,36 +116,36 @@ module _ (s : List ℕ) (z : SizedStore s) where
   unfolding numbered
   numbered-other zero i a b = refl
   numbered-other (suc k) i a b =
-      getD-set-other (set (numbered s k) (1 + k) (257 * (k + 1))) (permitCell k) i 1 0 (b k (omega arith)) ∙
-      getD-set-other (numbered s k) (1 + k) i (257 * (k + 1)) 0 (a k (omega arith)) ∙
+      getD-set-other (set (numbered s k) (1 + k) (256 * (k + 1) + (k + 1))) (permitCell k) i 1 0 (b k (omega arith)) ∙
+      getD-set-other (numbered s k) (1 + k) i (256 * (k + 1) + (k + 1)) 0 (a k (omega arith)) ∙
       numbered-other k i (λ j h. a j (omega arith)) (λ j h. b j (omega arith))
 
-  numbered-order : (k j : ℕ) → k ≤ 8 → j < k → getD (numbered s k) (1 + j) 0 ≡ 257 * (j + 1)
+  numbered-order : (k j : ℕ) → k ≤ 8 → j < k → getD (numbered s k) (1 + j) 0 ≡ 256 * (j + 1) + (j + 1)
   unfolding numbered
   numbered-order zero j m h = absurd (omega arith)
   numbered-order (suc k) j m h =
-      getD-set-other (set (numbered s k) (1 + k) (257 * (k + 1))) (permitCell k) (1 + j) 1 0 (λ e. omega arith) ∙ at (ℕ-discrete j k) (numbered-order k j (omega arith))
+      getD-set-other (set (numbered s k) (1 + k) (256 * (k + 1) + (k + 1))) (permitCell k) (1 + j) 1 0 (λ e. omega arith) ∙ at (ℕ-discrete j k) (numbered-order k j (omega arith))
     where
-      at : Dec (j ≡ k) → (j < k → getD (numbered s k) (1 + j) 0 ≡ 257 * (j + 1)) → getD (set (numbered s k) (1 + k) (257 * (k + 1))) (1 + j) 0 ≡ 257 * (j + 1)
+      at : Dec (j ≡ k) → (j < k → getD (numbered s k) (1 + j) 0 ≡ 256 * (j + 1) + (j + 1)) → getD (set (numbered s k) (1 + k) (256 * (k + 1) + (k + 1))) (1 + j) 0 ≡ 256 * (j + 1) + (j + 1)
       at (yes e) rest =
-          ap (λ (i : ℕ). getD (set (numbered s k) (1 + k) (257 * (k + 1))) (1 + i) 0) e ∙
-          getD-set-same (numbered s k) (1 + k) (257 * (k + 1)) 0 (within (numbered s k) (1 + k) (sized-numbered s k z) (omega arith)) ∙
-          ap (λ (i : ℕ). 257 * (i + 1)) (sym e)
-      at (no n) rest = getD-set-other (numbered s k) (1 + k) (1 + j) (257 * (k + 1)) 0 (λ e. n (omega arith)) ∙ rest (omega (arith, n))
+          ap (λ (i : ℕ). getD (set (numbered s k) (1 + k) (256 * (k + 1) + (k + 1))) (1 + i) 0) e ∙
+          getD-set-same (numbered s k) (1 + k) (256 * (k + 1) + (k + 1)) 0 (within (numbered s k) (1 + k) (sized-numbered s k z) (omega arith)) ∙
+          ap (λ (i : ℕ). 256 * (i + 1) + (i + 1)) (sym e)
+      at (no n) rest = getD-set-other (numbered s k) (1 + k) (1 + j) (256 * (k + 1) + (k + 1)) 0 (λ e. n (omega arith)) ∙ rest (omega (arith, n))
 
   numbered-permit : (k j : ℕ) → k ≤ 8 → j < k → getD (numbered s k) (permitCell j) 0 ≡ 1
   unfolding numbered
   numbered-permit zero j m h = absurd (omega arith)
   numbered-permit (suc k) j m h = at (ℕ-discrete j k) (numbered-permit k j (omega arith))
     where
-      at : Dec (j ≡ k) → (j < k → getD (numbered s k) (permitCell j) 0 ≡ 1) → getD (set (set (numbered s k) (1 + k) (257 * (k + 1))) (permitCell k) 1) (permitCell j) 0 ≡ 1
+      at : Dec (j ≡ k) → (j < k → getD (numbered s k) (permitCell j) 0 ≡ 1) → getD (set (set (numbered s k) (1 + k) (256 * (k + 1) + (k + 1))) (permitCell k) 1) (permitCell j) 0 ≡ 1
       at (yes e) rest =
-          ap (λ (i : ℕ). getD (set (set (numbered s k) (1 + k) (257 * (k + 1))) (permitCell k) 1) (permitCell i) 0) e ∙
-          getD-set-same (set (numbered s k) (1 + k) (257 * (k + 1))) (permitCell k) 1 0
-          (within (set (numbered s k) (1 + k) (257 * (k + 1))) (permitCell k) (simp length-set (sized-numbered s k z)) (omega arith))
+          ap (λ (i : ℕ). getD (set (set (numbered s k) (1 + k) (256 * (k + 1) + (k + 1))) (permitCell k) 1) (permitCell i) 0) e ∙
+          getD-set-same (set (numbered s k) (1 + k) (256 * (k + 1) + (k + 1))) (permitCell k) 1 0
+          (within (set (numbered s k) (1 + k) (256 * (k + 1) + (k + 1))) (permitCell k) (simp length-set (sized-numbered s k z)) (omega arith))
       at (no n) rest =
-          getD-set-other (set (numbered s k) (1 + k) (257 * (k + 1))) (permitCell k) (permitCell j) 1 0 (λ e. n (omega arith)) ∙
-          getD-set-other (numbered s k) (1 + k) (permitCell j) (257 * (k + 1)) 0 (λ e. omega arith) ∙
+          getD-set-other (set (numbered s k) (1 + k) (256 * (k + 1) + (k + 1))) (permitCell k) (permitCell j) 1 0 (λ e. n (omega arith)) ∙
+          getD-set-other (numbered s k) (1 + k) (permitCell j) (256 * (k + 1) + (k + 1)) 0 (λ e. omega arith) ∙
           rest (omega (arith, n))
 
 pub sized-empty : (n : ℕ) → SizedStore (emptyStore n)
@@ -183,7 +183,7 @@ module _ (n : ℕ) where
       omega (arith, cell)
 
   -- 'Replicas are numbered 1 to n at the start', each with the table of its number; so is every place behind them
-  pub cell-empty : (p : ℕ) → p < 8 → getD (emptyStore n) (1 + p) 0 ≡ 257 * (p + 1)
+  pub cell-empty : (p : ℕ) → p < 8 → getD (emptyStore n) (1 + p) 0 ≡ 256 * (p + 1) + (p + 1)
   cell-empty p h = behind-live (1 + p) (omega arith) (λ e. omega arith) ∙ numbered-order emptyCells sized-cells 8 p (omega arith) h
 
   pub member-empty : (p : ℕ) → n ≤ limits.replicas → p < n → memberAt (emptyStore n) p ≡ p + 1

@@ -1,9 +1,10 @@
 -- What the replicas do with writes and reads: document 01, 'What delivery does' and the step advance. s is what the lent store holds.
-use mathlib.Core.Bool.{Bool, true, false, cond}
+use mathlib.Core.Bool.{Bool, false, cond, not}
 use mathlib.Core.List.{List}
 use Prim.Native.Nat.{ℕ, _+_, _-_}
 use lib.Dec.{eqb, leb, ltb}
 use Rattle.limits.specs as limits
+use Rattle.lists.specs.{allOf}
 use Rattle.stamp.specs.Stamps.{isAbove, largerOf}
 use Rattle.store.specs.{highestOf, permittedBy, appliedBy, entryAt, stampAt, logged, tabled, raised}
 use Rattle.chain.specs.{chainPlace, memberAt, headOf, tailOf}
@@ -44,6 +45,11 @@ pending s r = pendingAt s (chainPlace s r) r
 unfoldable pub oldest : List ℕ → ℕ → Write
 oldest s r = entryAt s (appliedBy s r)
 
--- a direct read is 'answered .. if the read's switch number is the one this replica permits and the object's stamp is not above the stamp carried'
-unfoldable pub answersDirect : List ℕ → ℕ → ℕ → ℕ → ℕ → Bool
-answersDirect s r o number carried = cond (eqb (permittedBy s r) number) (cond (isAbove (stampAt s r o) carried) false true) false
+-- the object's stamp at replica r is not above the one carried
+unfoldable pub isNotAbove : List ℕ → ℕ → ℕ → ℕ → Bool
+isNotAbove s r carried x = not (isAbove (stampAt s r x) carried)
+
+-- a direct read of one object or several is answered 'if the read's switch number is the one this replica permits and the object's stamp is not above the stamp carried'; Req 02:
+-- 'and no object's stamp is above the one carried'
+unfoldable pub answersDirect : List ℕ → ℕ → ℕ → ℕ → List ℕ → Bool
+answersDirect s r number carried xs = cond (eqb (permittedBy s r) number) (allOf (isNotAbove s r carried) xs) false

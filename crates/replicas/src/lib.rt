@@ -1,7 +1,10 @@
 // The replicas: up to eight in a chain, all that they keep in a store that the caller lends, and the links between neighbours.
 // The head's applied writes are a log. Each replica has applied a front part of it, so a link holds what lies between two neighbours' parts.
 ghost use mathlib.Core.Path.{_≡_};
-ghost use Rattle.replicas.specs.Replicas.{linkedWrites, accepts, nextPosition, applying, taking, pendingAt, oldest, answersDirect};
+ghost use Rattle.replicas.specs.Replicas.{linkedWrites, accepts, nextPosition, applying, taking, pendingAt, oldest, isNotAbove, answersDirect};
+ghost use Rattle.replicas.specs.Visible.{visibleCount};
+ghost use Rattle.store.specs.{entryAt};
+ghost use mathlib.Core.List.{[], _∷_};
 use limits::LAST_POSITION;
 use limits::Number;
 use limits::Object;
@@ -85,15 +88,33 @@ pub fn oldest(cells: &[u32; CELLS], r: Table) -> Write
     store::read_entry(cells, store::applied(cells, r))
 }
 
-// Whether the replica answers a direct read that carries this switch number and stamp.
+// Whether the object's stamp at the replica is not above the one carried.
+pub fn is_not_above(cells: &[u32; CELLS], r: Table, carried: Stamp, o: Object) -> bool
+    ensures { λ x. ⌜ x ≡ isNotAbove (now (cells .entry)) r carried o ⌝ }
+{
+    !stamp::above(store::read_stamp(cells, r, o), carried)
+}
+
+// Whether the replica answers a direct read of one object that carries this switch number and stamp.
 pub fn answers(cells: &[u32; CELLS], r: Table, o: Object, number: Number, carried: Stamp) -> bool
-    ensures { λ x. ⌜ x ≡ answersDirect (now (cells .entry)) r o number carried ⌝ }
+    ensures { λ x. ⌜ x ≡ answersDirect (now (cells .entry)) r number carried (o ∷ []) ⌝ }
 {
     if store::permitted(cells, r) != number as u32 {
         return false;
     }
-    if stamp::above(store::read_stamp(cells, r, o), carried) {
-        return false;
-    }
-    true
+    is_not_above(cells, r, carried, o)
+}
+
+// How many writes of the log are visible.
+pub fn visible(cells: &[u32; CELLS]) -> Position
+    ensures { λ x. ⌜ x ≡ visibleCount (now (cells .entry)) ⌝ }
+{
+    store::applied(cells, chain::read_replica(cells))
+}
+
+// The write at a position of the log: after a step, those from the position before it up to the one after it have become visible.
+pub fn logged(cells: &[u32; CELLS], position: Position) -> Write
+    ensures { λ x. ⌜ x ≡ entryAt (now (cells .entry)) position ⌝ }
+{
+    store::read_entry(cells, position)
 }

@@ -8,11 +8,9 @@ use native.Mathlib.Omega.{arith}
 use lib.Dec.{ltb}
 use lib.ListN.{length}
 use Rattle.limits.specs as limits
+use Rattle.lists.proofs.Tests.{both}
 use Rattle.protocol.specs.declared.Step.{Step}
-use Rattle.protocol.specs.declared.Refusal.the-variants.{InputTooLong}
-use Rattle.protocol.specs.Answers.{refusalNumber}
 use Rattle.protocol.specs.Steps.{Machine}
-use Rattle.line_lengths.specs.Lines.{noLine}
 use Rattle.records.specs.declared.Next.{Next}
 use Rattle.records.specs.Records.{nextAt}
 use Rattle.records.proofs.Round.{next-record, next-position}
@@ -77,11 +75,7 @@ module _ (m : Machine) (input : List ℕ) where
 
   begun-ahead : Ahead begun
   unfolding firstPrinted stopped
-  begun-ahead = go (ltb limits.input (length input))
-    where
-      go : (t : Bool) → Ahead (cond t (stopped m (noLine 0 (refusalNumber InputTooLong))) (firstRead m (nextAt input 0)) .then)
-      go true = inl refl
-      go false = read-ahead-first (nextAt input 0) refl
+  begun-ahead = both (λ (p : Printed). Ahead (p .then)) (ltb limits.input (length input)) (inl refl) (read-ahead-first (nextAt input 0) refl)
 
   -- EVERY RUN ENDS, after at most as many turns as the input has bytes; and more turns print nothing more
   pub run-ends : afterTurns (length input) input begun .over ≡ true

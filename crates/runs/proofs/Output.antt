@@ -2,7 +2,7 @@
 use mathlib.Core.Path.{_≡_, refl, ap, sym, _∙_, subst}
 use mathlib.Core.Bool.{Bool, true, false, cond}
 use mathlib.Core.List.{List, [], _∷_, _++_, append-assoc, append-nil}
-use Prim.Native.Nat.{ℕ, zero, suc, _+_, _-_, _<_, _≤_}
+use Prim.Native.Nat.{ℕ, zero, suc, _+_, _<_, _≤_}
 use native.Mathlib.Nat.{add-zero}
 use native.Mathlib.Omega.{arith}
 use lib.Dec.{leb, T}
@@ -25,14 +25,10 @@ use Rattle.turns.specs.declared.Ran.{Ran}
 use Rattle.turns.specs.Turns.{Standing, continued, nextPrinted, firstPrinted}
 use Rattle.runs.specs.Runs.{linesFrom, joined, fitting, holding, untouched, linesOn, linesOf, printed}
 use Rattle.turns.specs.Contracts.{Turned, turnedTo, turned, goesOn, placeAfter, lastPlace, Stands, standsAs, oneTurn}
-use Rattle.runs.specs.Contracts.{InUse, toPrint}
+use Rattle.runs.specs.Contracts.{lastLine, firstPiece, nextPiece, InUse, toPrint}
 use Rattle.turns.proofs.Filling.{goes-low, turned-stops, fewer-at-end}
 use Rattle.runs.proofs.Ends.{over-next, over-prints}
 use Rattle.runs.proofs.Whole.{printed-short, next-short, begins-short}
-
--- the last place of a piece that has room for the longest line
-abbrev lastLine : ℕ
-lastLine = 65389
 
 -- ---- bytes at a place
 
@@ -186,7 +182,8 @@ module _ (input switch store opens : List ℕ) (row : List Packet) (b : List ℕ
       → (ran : Ran) (switch₂ store₂ opens₂ : List ℕ) (row₂ : List Packet) (b₂ : List ℕ)
       → Stands ran switch₂ store₂ opens₂ row₂ b₂ (turned (begun .run .left) lastLine input (standsAs (begun .run) switch₁ store₁ opens₁ row) b₁ (begun .used))
       → InUse (ran .used) b₂ × (take (ran .used) b₂ ++ toPrint input (ran .run) switch₂ store₂ opens₂ row₂ ≡ joined (linesOn (lent (replicate limits.waiting blank)) input))
-  unfolding linesOn joined toPrint
+      × Stands ran switch₂ store₂ opens₂ row₂ b₂ (firstPiece (lent (replicate limits.waiting blank)) input b)
+  unfolding linesOn joined toPrint firstPiece
   first-parts long blanks begun switch₁ store₁ opens₁ b₁ f ran switch₂ store₂ opens₂ row₂ b₂ g =
       let line = firstPrinted (lent row) input .line in
       let short : length line ≤ longest = begins-short (lent row) input in
@@ -200,6 +197,8 @@ module _ (input switch store opens : List ℕ) (row : List Packet) (b : List ℕ
         piece-used input lastLine (begun .run) switch₁ store₁ opens₁ row b₁ (begun .used) room small within ran switch₂ store₂ opens₂ row₂ b₂ g,
         piece-parts input lastLine (begun .run) switch₁ store₁ opens₁ row b₁ (begun .used) room small within ran switch₂ store₂ opens₂ row₂ b₂ g ∙ (λ j. there j ++ rest j)
             ∙ ap (λ (l : List Packet). firstPrinted (lent l) input .line ++ joined (linesFrom (length input) input (firstPrinted (lent l) input .then))) blanks,
+        subst (Stands ran switch₂ store₂ opens₂ row₂ b₂)
+            ((λ j. turned (f .left j) lastLine input (f .stands j) (f .there j) (f .place j)) ∙ ap (λ (l : List Packet). firstPiece (lent l) input b) blanks) g,
       )
 
 -- the pieces that follow
@@ -207,13 +206,15 @@ module _ (input : List ℕ) (r : Run) (switch store opens : List ℕ) (row : Lis
   pub next-parts : length b ≡ 65536 → (ran : Ran) (switch₁ store₁ opens₁ : List ℕ) (row₁ : List Packet) (b₁ : List ℕ)
       → Stands ran switch₁ store₁ opens₁ row₁ b₁ (turned (r .left) lastLine input (standsAs r switch store opens row) b 0)
       → InUse (ran .used) b₁ × (take (ran .used) b₁ ++ toPrint input (ran .run) switch₁ store₁ opens₁ row₁ ≡ toPrint input r switch store opens row) × (goesOn (r .over) (r .left) 0 0 ≡ true → ran .run .left < r .left)
-  unfolding goesOn
+      × Stands ran switch₁ store₁ opens₁ row₁ b₁ (nextPiece r switch store opens row input b)
+  unfolding goesOn nextPiece
   next-parts long ran switch₁ store₁ opens₁ row₁ b₁ g =
       let room : lastLine + longest ≤ length b = omega (arith, long) in
       let small : length b ≤ lastPlace = omega (arith, long) in (
         piece-used input lastLine r switch store opens row b 0 room small (omega arith) ran switch₁ store₁ opens₁ row₁ b₁ g,
         piece-parts input lastLine r switch store opens row b 0 room small (omega arith) ran switch₁ store₁ opens₁ row₁ b₁ g,
         λ e. rw (g .left) (fewer-at-end lastLine input r switch store opens row b 0 e),
+        g,
       )
 
 -- where no piece follows, nothing is left to print

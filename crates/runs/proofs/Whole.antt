@@ -1,14 +1,15 @@
--- How long the output is: 3,276,800 bytes are room for that of any input.
-use mathlib.Core.Path.{_≡_, refl}
+-- How long the output is: 3,276,800 bytes are room for that of any input. And that a buffer with room holds all of it.
+use mathlib.Core.Path.{_≡_, refl, ap, _∙_}
 use mathlib.Core.Logic.{inl, inr}
-use mathlib.Core.Bool.{Bool, true, false, cond}
-use mathlib.Core.List.{List, _++_, append-nil}
+use mathlib.Core.Bool.{Bool, true, false}
+use mathlib.Core.List.{List, [], _∷_, _++_, append-nil}
 use Prim.Native.Nat.{ℕ, zero, suc, _+_, _-_, _*_, _≤_}
 use native.Mathlib.Omega.{arith}
 use lib.Dec.{ltb}
-use lib.ListN.{length, length-append}
-use borrow.Author.Tests.{ltb-false, le-ltb}
+use lib.ListN.{length, take, length-append}
+use borrow.Author.Tests.{ltb-false, le-leb, le-ltb}
 use Rattle.limits.specs as limits
+use Rattle.lists.proofs.Tests.{both}
 use Rattle.protocol.specs.declared.Refusal.the-variants.{InputTooLong}
 use Rattle.protocol.specs.Answers.{refusalNumber}
 use Rattle.protocol.specs.Steps.{Machine}
@@ -16,8 +17,10 @@ use Rattle.records.specs.declared.Next.{Next}
 use Rattle.records.specs.Records.{nextAt}
 use Rattle.line_lengths.specs.Lines.{noLine}
 use Rattle.line_lengths.proofs.Laws.{longest, refusal-length, answer-length}
+use Rattle.lines.specs.Text.{pasted}
+use Rattle.lines.proofs.Text.{length-pasted, take-pasted}
 use Rattle.turns.specs.Turns.{Standing, Printed, continued, readNext, nextPrinted, stopped, startedWith, firstRead, firstPrinted}
-use Rattle.runs.specs.Runs.{linesFrom, joined, linesOn, untouched, printed}
+use Rattle.runs.specs.Runs.{linesFrom, joined, linesOn, linesOf, untouched, printed, fitting, holding}
 use Rattle.runs.proofs.Ends.{over-prints, read-ahead, read-ahead-first}
 
 -- no line has more than `longest` bytes
@@ -38,11 +41,7 @@ first-short m Next.Malformed = refusal-length _ _
 
 pub begins-short : (m : Machine) (input : List ℕ) → length (firstPrinted m input .line) ≤ longest
 unfolding firstPrinted stopped
-begins-short m input = go (ltb limits.input (length input))
-  where
-    go : (t : Bool) → length (cond t (stopped m (noLine 0 (refusalNumber InputTooLong))) (firstRead m (nextAt input 0)) .line) ≤ longest
-    go true = refusal-length _ _
-    go false = first-short m (nextAt input 0)
+begins-short m input = both (λ (p : Printed). length (p .line) ≤ longest) (ltb limits.input (length input)) (refusal-length _ _) (first-short m (nextAt input 0))
 
 -- each record of the input is at least three bytes long, and the line of a malformed one is the last
 lines-short : (k : ℕ) (input : List ℕ) (u : Standing) → u .at ≤ length input → 3 * length (joined (linesFrom k input u)) ≤ longest * (length input - u .at) + 3 * longest
@@ -80,3 +79,25 @@ printed-short input = go (ltb limits.input (length input)) refl
     go : (t : Bool) → ltb limits.input (length input) ≡ t → length (printed input) ≤ 3276800
     go true e = rw e (rw (over-prints (length input) input (stopped untouched (noLine 0 (refusalNumber InputTooLong)) .then) refl) (simp length-append (omega (arith, refusal-length 0 (refusalNumber InputTooLong)))))
     go false e = omega (arith, printed-within input (ltb-false limits.input (length input) e), ltb-false limits.input (length input) e)
+
+-- ---- a buffer with room holds all of it
+
+fitting-all : (room used : ℕ) (ls : List (List ℕ)) → used + length (joined ls) ≤ room → fitting room used ls ≡ ls
+unfolding fitting joined
+fitting-all room used [] h = refl
+fitting-all room used (l ∷ ls) h =
+    let more : length (l ++ joined ls) ≡ length l + length (joined ls) = length-append l (joined ls) in
+    rw (le-leb (used + length l) room (omega arith)) (ap (λ (k : List (List ℕ)). l ∷ k) (fitting-all room (used + length l) ls (omega arith)))
+
+module _ (out input : List ℕ) (room : length (printed input) ≤ length out) where
+  holding-all : holding out (linesOf input) ≡ pasted out 0 (printed input)
+  unfolding holding printed
+  holding-all = ap (λ (ls : List (List ℕ)). pasted out 0 (joined ls)) (fitting-all (length out) 0 (linesOf input) (omega arith))
+
+  pub whole-output : take (length (printed input)) (holding out (linesOf input)) ≡ printed input
+  whole-output =
+      let none : length (printed input) ≡ 0 + length (printed input) = omega arith in
+      (λ j. take (none j) (holding-all j)) ∙ take-pasted out 0 (printed input) (omega arith)
+
+  pub whole-length : length (holding out (linesOf input)) ≡ length out
+  whole-length = ap length holding-all ∙ length-pasted out 0 (printed input) (omega arith)

@@ -9,7 +9,7 @@ ghost use Rattle.waiting.specs.Waiting.{blank, noneWait};
 ghost use Rattle.protocol.specs.Steps.{machine};
 ghost use Rattle.turns.specs.Contracts.{goesOn, turned, standsAs, Stands};
 ghost use Rattle.runs.specs.Runs.{linesOn, linesOf, joined, printed, holding};
-ghost use Rattle.runs.specs.Contracts.{InUse, toPrint};
+ghost use Rattle.runs.specs.Contracts.{firstPiece, nextPiece, InUse, toPrint};
 use limits::WAITING;
 use turns::Ran;
 use turns::Run;
@@ -96,7 +96,8 @@ pub fn has_more(run: Run) -> bool
     turns::goes_on(run.over, run.left, 0, 0)
 }
 
-// The first piece of the output of an input. What is still to be printed stands in the run that is handed back.
+// The first piece of the output of an input, up to where the longest line may have no room, or the run is over. What is still to be printed stands in the run that is handed
+// back.
 pub fn first_piece(
     input: &[u8],
     switch: &mut [u32; switch::CELLS],
@@ -106,7 +107,9 @@ pub fn first_piece(
 ) -> Piece
     ensures { λ r. ⌜ InUse (r .used) (now (out .exit))
         × (take (r .used) (now (out .exit)) ++ toPrint (now (input .entry)) (r .run) (now (switch .exit)) (now (store .exit)) (now (opens .exit)) (r .packets)
-        ≡ joined (linesOn (machine (now (switch .entry)) (now (store .entry)) (now (opens .entry)) (noneWait (replicate limits.waiting blank))) (now (input .entry)))) ⌝ }
+        ≡ joined (linesOn (machine (now (switch .entry)) (now (store .entry)) (now (opens .entry)) (noneWait (replicate limits.waiting blank))) (now (input .entry))))
+        × Stands (record { run = r .run; used = r .used }) (now (switch .exit)) (now (store .exit)) (now (opens .exit)) (r .packets) (now (out .exit))
+        (firstPiece (machine (now (switch .entry)) (now (store .entry)) (now (opens .entry)) (noneWait (replicate limits.waiting blank))) (now (input .entry)) (now (out .entry))) ⌝ }
 {
     let ran = turns::first(input, &mut *switch, &mut *store, &mut *opens, &mut *out);
     print_piece(
@@ -122,7 +125,7 @@ pub fn first_piece(
     )
 }
 
-// The next piece.
+// The next piece, at the start of the buffer.
 pub fn next_piece(
     input: &[u8],
     run: Run,
@@ -135,7 +138,9 @@ pub fn next_piece(
     ensures { λ r. ⌜ InUse (r .used) (now (out .exit))
         × (take (r .used) (now (out .exit)) ++ toPrint (now (input .entry)) (r .run) (now (switch .exit)) (now (store .exit)) (now (opens .exit)) (r .packets)
         ≡ toPrint (now (input .entry)) run (now (switch .entry)) (now (store .entry)) (now (opens .entry)) packets)
-        × (goesOn (run .over) (run .left) 0 0 ≡ true → r .run .left < run .left) ⌝ }
+        × (goesOn (run .over) (run .left) 0 0 ≡ true → r .run .left < run .left)
+        × Stands (record { run = r .run; used = r .used }) (now (switch .exit)) (now (store .exit)) (now (opens .exit)) (r .packets) (now (out .exit))
+        (nextPiece run (now (switch .entry)) (now (store .entry)) (now (opens .entry)) packets (now (input .entry)) (now (out .entry))) ⌝ }
 {
     print_piece(
         input,
@@ -152,7 +157,7 @@ pub fn next_piece(
 
 // Room for the longest input and one byte more, which tells an input that is too long.
 pub fn input_room() -> [u8; 65537]
-    ensures { λ r. ⌜ 65537 ≡ length r ⌝ }
+    ensures { λ r. ⌜ (r ≡ replicate 65537 0) × (65537 ≡ length r) ⌝ }
 {
     [0; 65537]
 }

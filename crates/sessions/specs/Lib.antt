@@ -8,11 +8,13 @@ use Rattle.contexts.specs.declared.Context.{Context}
 use Rattle.contexts.specs.{context}
 use Rattle.protocol.specs.declared.Answer.{Answer}
 use Rattle.protocol.specs.declared.Answer.the-variants.{Done, Finished, FinishedContext, Refused}
+use Rattle.protocol.specs.declared.Setup.{Setup}
+use Rattle.protocol.specs.declared.Setup.the-variants.{Missing}
 use Rattle.protocol.specs.declared.Step.{Step}
 use Rattle.protocol.specs.declared.Step.the-variants.{Start}
 use Rattle.protocol.specs.declared.Stepped.{Stepped}
 use Rattle.protocol.specs.Answers.{refusalNumber, noFreshness}
-use Rattle.protocol.specs.Steps.{startRefused, startAnswer}
+use Rattle.protocol.specs.Starts.{setupOf, startRefused, startAnswer}
 use Rattle.records.specs.declared.Found.{Found}
 use Rattle.records.specs.Records.{recordAt}
 use Rattle.sessions.specs.declared.Session.{Session}
@@ -46,32 +48,40 @@ freshnessIn (Finished o v f) = f
 freshnessIn (FinishedContext o v) = noFreshness
 freshnessIn (Refused r) = noFreshness
 
--- a session after a start with n replicas: a refused one leaves the marks and what waits as they were
-unfoldable pub sessionStarted : ℕ → Session → Session
-sessionStarted n before = record {
-  refusal = refusalIn (startAnswer n);
-  operation = 0;
-  values = noValues;
-  freshness = noFreshness;
-  marks = cond (startRefused n) (before .marks) 0;
-  waiting = cond (startRefused n) (before .waiting) 0;
-}
-
--- the step of a record that fills the lent bytes; where there is none, a start, which the machine refuses by 1
+-- the step of a record that fills the lent bytes; where there is none, a start that sets nothing up, which the machine refuses by 1
 abbrev pub wholeStep : Found → ℕ → Step
-wholeStep (Found.Record x n) size = cond (eqb n size) x (Start 0)
-wholeStep Found.Malformed size = Start 0
+wholeStep (Found.Record x n) size = cond (eqb n size) x (Start Missing)
+wholeStep Found.Malformed size = Start Missing
 
 unfoldable pub askedBy : List ℕ → Step
 askedBy bytes = wholeStep (recordAt bytes 0) (length bytes)
 
--- a session after a step
-unfoldable pub sessionAfter : Stepped → Session
-sessionAfter t = record {
+-- what the start of such a record sets up
+unfoldable pub startAsked : List ℕ → Setup
+startAsked bytes = setupOf (askedBy bytes)
+
+-- a session after a start: a refused one leaves the marks and what waits as they were
+unfoldable pub sessionStarted : Setup → Session → Session
+sessionStarted b before = record {
+  refusal = refusalIn (startAnswer b);
+  operation = 0;
+  values = noValues;
+  freshness = noFreshness;
+  marks = cond (startRefused b) (before .marks) 0;
+  waiting = cond (startRefused b) (before .waiting) 0;
+}
+
+-- the marks after a step: a refused one leaves them as they were
+unfoldable pub marksAfter : ℕ → ℕ → ℕ → ℕ
+marksAfter before refusal marks = cond (eqb refusal 0) marks before
+
+-- a session after a step; `before` is how many marks it had
+unfoldable pub sessionAfter : ℕ → Stepped → Session
+sessionAfter before t = record {
   refusal = refusalIn (t .answer);
   operation = operationIn (t .answer);
   values = valuesIn (t .answer);
   freshness = freshnessIn (t .answer);
-  marks = t .marks;
+  marks = marksAfter before (refusalIn (t .answer)) (t .marks);
   waiting = t .count;
 }

@@ -2,14 +2,16 @@
 ghost use mathlib.Core.Path.{_≡_};
 ghost use Rattle.contexts.specs.{context};
 ghost use Rattle.protocol.specs.Steps.{startSwitch, startStore, startOpens};
-ghost use Rattle.sessions.specs.{refusalIn, operationIn, noValues, valuesIn, freshnessIn, sessionStarted, wholeStep, askedBy, sessionAfter};
+ghost use Rattle.sessions.specs.{refusalIn, operationIn, noValues, valuesIn, freshnessIn, sessionStarted, wholeStep, askedBy, startAsked, marksAfter, sessionAfter};
 use contexts::Context;
 use limits::Freshness;
 use protocol::Answer;
+use protocol::Setup;
 use protocol::Step;
 use protocol::Stepped;
 use protocol::answers;
 use protocol::answers::NONE;
+use protocol::setups;
 use records::Found;
 
 // The answer of the last start or step: its refusal or 0; the operation that it finished, or 0; how many values that has (0, 1 or 2 to 8), and the values; what a finished
@@ -100,22 +102,23 @@ fn freshness_in(answer: Answer) -> Freshness
     }
 }
 
-// An empty store: no packet waits, and no mark counts. A refused start leaves what waits and what counts as it was.
+// The start of a record, which is all of the bytes: an empty store, no packet waits, and no mark counts. A refused start leaves what waits and what counts as it was.
 pub fn begin(
     before: Session,
     switch: &mut [u32; switch::CELLS],
     store: &mut [u32; store::CELLS],
     opens: &mut [u32; operations::CELLS],
-    n: u8,
+    bytes: &[u8],
 ) -> Session
-    ensures { λ r. ⌜ (r ≡ sessionStarted n before)
-        × (now (switch .exit) ≡ startSwitch n (now (switch .entry)))
-        × (now (store .exit) ≡ startStore n (now (store .entry)))
-        × (now (opens .exit) ≡ startOpens n (now (opens .entry))) ⌝ }
+    ensures { λ r. ⌜ (r ≡ sessionStarted (startAsked (now (bytes .entry))) before)
+        × (now (switch .exit) ≡ startSwitch (startAsked (now (bytes .entry))) (now (switch .entry)))
+        × (now (store .exit) ≡ startStore (startAsked (now (bytes .entry))) (now (store .entry)))
+        × (now (opens .exit) ≡ startOpens (startAsked (now (bytes .entry))) (now (opens .entry))) ⌝ }
 {
-    let answer = machine::start(n, &mut *switch, &mut *store, &mut *opens);
+    let b = start_asked(bytes);
+    let answer = machine::start(b, &mut *switch, &mut *store, &mut *opens);
     let refusal = refusal_in(answer);
-    if machine::start_refused(n) {
+    if setups::is_refused(b) {
         return Session {
             refusal,
             operation: 0,
@@ -139,8 +142,14 @@ fn whole_step(found: Found, size: usize) -> Step
     ensures { λ r. ⌜ r ≡ wholeStep found size ⌝ }
 {
     match found {
-        Found::Record(x, n) => { if n == size { x } else { Step::Start(0) } }
-        Found::Malformed => Step::Start(0),
+        Found::Record(x, n) => {
+            if n == size {
+                x
+            } else {
+                Step::Start(Setup::Missing)
+            }
+        }
+        Found::Malformed => Step::Start(Setup::Missing),
     }
 }
 
@@ -151,12 +160,27 @@ pub fn asked(bytes: &[u8]) -> Step
     whole_step(reader::record_at(bytes, 0), bytes.len())
 }
 
-// The session after a step.
-pub fn noted(done: Stepped) -> Session
-    ensures { λ r. ⌜ r ≡ sessionAfter done ⌝ }
+// What the start of a record sets up.
+fn start_asked(bytes: &[u8]) -> Setup
+    ensures { λ r. ⌜ r ≡ startAsked (now (bytes .entry)) ⌝ }
+{
+    setups::setup_of(asked(bytes))
+}
+
+// How many marks the session has after a step: a refused one leaves them as they were.
+fn marks_after(before: u32, refusal: u8, marks: u32) -> u32
+    ensures { λ r. ⌜ r ≡ marksAfter before refusal marks ⌝ }
+{
+    if refusal == 0 { marks } else { before }
+}
+
+// The session after a step; `marks` are those of the session before.
+pub fn noted(marks: u32, done: Stepped) -> Session
+    ensures { λ r. ⌜ r ≡ sessionAfter marks done ⌝ }
 {
     let answer = done.answer;
     let refusal = refusal_in(answer);
+    let marks = marks_after(marks, refusal, done.marks);
     let operation = operation_in(answer);
     let values = values_in(answer);
     let freshness = freshness_in(answer);
@@ -165,7 +189,7 @@ pub fn noted(done: Stepped) -> Session
         operation,
         values,
         freshness,
-        marks: done.marks,
+        marks,
         waiting: done.count,
     }
 }

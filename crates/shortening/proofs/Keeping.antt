@@ -1,6 +1,6 @@
 -- The records that are kept, copied one after the other.
-use mathlib.Core.Path.{_≡_, refl, sym, ap, _∙_}
-use mathlib.Core.Bool.{Bool, true, false, cond}
+use mathlib.Core.Path.{_≡_, refl, ap, _∙_}
+use mathlib.Core.Bool.{cond}
 use mathlib.Core.List.{List, [], _++_}
 use Prim.Native.Nat.{ℕ, zero, suc, _+_, _-_, _≤_, _<_}
 use native.Mathlib.Nat.{add-sub-cancel-left}
@@ -9,6 +9,7 @@ use native.Mathlib.Omega.{arith}
 use lib.Dec.{eqb}
 use lib.ListN.{length, getD, take, drop, length-append, length-take}
 use lib.Seq.{paste, take-paste, length-paste, take-all, length-take-le}
+use Rattle.lists.proofs.Tests.{both}
 use Rattle.shortening.specs.Shortening.{sizeAt, placeOf, keptTo}
 use Rattle.shortening.specs.Contracts.{Within}
 
@@ -26,11 +27,7 @@ abbrev pub piece : ℕ → List ℕ → List ℕ
 piece flag part = cond (eqb flag 0) [] part
 
 pub piece-short : (flag : ℕ) (part : List ℕ) → length (piece flag part) ≤ length part
-piece-short flag part = go (eqb flag 0)
-  where
-    go : (t : Bool) → length (cond t [] part) ≤ length part
-    go true = omega arith
-    go false = omega arith
+piece-short flag part = both (λ (l : List ℕ). length l ≤ length part) (eqb flag 0) (omega arith) (omega arith)
 
 -- one record more
 abbrev pub recordBytes : ℕ → List ℕ → List ℕ

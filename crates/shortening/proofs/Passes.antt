@@ -1,33 +1,15 @@
 -- Passes over the records between the first and the last: what they leave of the flags, turn by turn.
-use mathlib.Core.Path.{_≡_, refl, sym, ap, _∙_}
+use mathlib.Core.Path.{_≡_, refl, ap, _∙_}
 use mathlib.Core.Bool.{Bool, true, false, cond}
 use mathlib.Core.List.{List}
 use Prim.Native.Nat.{ℕ, zero, suc, _+_, _-_, _≤_, _<_}
 use native.Mathlib.Omega.{arith}
 use lib.Dec.{eqb}
-use lib.ListN.{length, set, length-set}
+use lib.ListN.{length, length-set}
 use borrow.Author.Tests.{eq-eqb, ne-eqb}
+use Rattle.lists.proofs.Tests.{both}
 use Rattle.shortening.specs.Shortening.{drops, tried, passed, dropped, rounds}
 use Rattle.shortening.specs.Contracts.{Trying}
-
--- the flags keep their number
-pub tried-length : (l : List ℕ) (count k : ℕ) (flags : List ℕ) (i : ℕ) → length (tried l count k flags i) ≡ length flags
-unfolding tried
-tried-length l count k flags i = go (drops l count k flags i)
-  where
-    go : (t : Bool) → length (cond t (set flags i 0) flags) ≡ length flags
-    go true = length-set flags i 0
-    go false = refl
-
-pub passed-length : (l : List ℕ) (count k i : ℕ) (flags : List ℕ) → length (passed l count k i flags) ≡ length flags
-unfolding passed
-passed-length l count k zero flags = refl
-passed-length l count k (suc i) flags = passed-length l count k i (tried l count k flags (suc i)) ∙ tried-length l count k flags (suc i)
-
--- a trial can be made with other flags and buffers of the same lengths
-pub trying-kept : {count : ℕ} {l flags run lines flags' run' lines' : List ℕ} → Trying count l flags run lines → length flags' ≡ length flags → length run' ≡ length run → length lines' ≡ length lines
-    → Trying count l flags' run' lines'
-trying-kept t a b c = record { within = t .within; flagged = omega (arith, t .flagged, a); short = t .short; room = b ∙ t .room; printing = c ∙ t .printing }
 
 -- one turn of a pass
 pub passed-next : (l : List ℕ) (count k i : ℕ) (flags : List ℕ) → 0 < i → passed l count k i flags ≡ passed l count k (i - 1) (tried l count k flags i)
@@ -51,8 +33,22 @@ unfolding dropped
 dropped-none l count k i flags e = rw e refl
 
 pub one-drop : (b : Bool) → cond b 1 0 ≤ 1
-one-drop true = omega arith
-one-drop false = omega arith
+one-drop b = both (λ (n : ℕ). n ≤ 1) b (omega arith) (omega arith)
+
+-- the flags keep their number
+pub tried-length : (l : List ℕ) (count k : ℕ) (flags : List ℕ) (i : ℕ) → length (tried l count k flags i) ≡ length flags
+unfolding tried
+tried-length l count k flags i = both (λ (fs : List ℕ). length fs ≡ length flags) (drops l count k flags i) (length-set flags i 0) refl
+
+pub passed-length : (l : List ℕ) (count k i : ℕ) (flags : List ℕ) → length (passed l count k i flags) ≡ length flags
+unfolding passed
+passed-length l count k zero flags = refl
+passed-length l count k (suc i) flags = passed-length l count k i (tried l count k flags (suc i)) ∙ tried-length l count k flags (suc i)
+
+-- a trial can be made with other flags and buffers of the same lengths
+pub trying-kept : {count : ℕ} {l flags run lines flags' run' lines' : List ℕ} → Trying count l flags run lines → length flags' ≡ length flags → length run' ≡ length run → length lines' ≡ length lines
+    → Trying count l flags' run' lines'
+trying-kept t a b c = record { within = t .within; flagged = omega (arith, t .flagged, a); short = t .short; room = b ∙ t .room; printing = c ∙ t .printing }
 
 -- one turn of the passes
 pub rounds-stop : (f : ℕ) (l : List ℕ) (count k : ℕ) (flags : List ℕ) → 0 < f → dropped l count k (count - 2) flags ≡ 0

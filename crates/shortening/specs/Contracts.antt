@@ -1,7 +1,7 @@
 -- What the contracts of private functions cite.
 use mathlib.Core.Path.{_≡_}
 use mathlib.Core.List.{List}
-use Prim.Native.Nat.{ℕ, suc, _+_, _*_, _≤_, _<_}
+use Prim.Native.Nat.{ℕ, suc, _*_, _≤_, _<_}
 use lib.ListN.{length}
 use Rattle.protocol.specs.declared.Refusal.the-variants.{Format, Replicas, InputTooLong}
 use Rattle.protocol.specs.Answers.{refusalNumber}

@@ -8,10 +8,9 @@ use lib.ListN.{length, getD, set, take, drop, replicate}
 use Rattle.limits.specs as limits
 use Rattle.protocol.specs.declared.Refusal.the-variants.{Format, Replicas, InputTooLong, BufferTooShort}
 use Rattle.protocol.specs.Answers.{refusalNumber}
-use Rattle.protocol.specs.Steps.{startRefused}
+use Rattle.protocol.specs.Starts.{setupOf, startRefused}
 use Rattle.records.specs.declared.Next.{Next}
 use Rattle.records.specs.Records.{twoAt, nextAt}
-use Rattle.turns.specs.Turns.{replicasOf}
 use Rattle.runs.specs.Runs.{printed}
 
 -- ---- the records of the input
@@ -43,7 +42,7 @@ metFrom (suc f) l at = cond (leb (length l) at) 0 (cond (isRecord (nextAt l at))
 
 -- 'Before these come 14, then 1 or 2, as the run meets them'
 abbrev pub metFirst : List ℕ → Next → ℕ
-metFirst l (Next.Record x n) = cond (startRefused (replicasOf x)) (refusalNumber Replicas) (metFrom (length l) l (sizeAt l 0))
+metFirst l (Next.Record x n) = cond (startRefused (setupOf x)) (refusalNumber Replicas) (metFrom (length l) l (sizeAt l 0))
 metFirst l Next.End = refusalNumber Format
 metFirst l Next.Malformed = refusalNumber Format
 

@@ -8,11 +8,10 @@ ghost use lib.IntN.{pos, negℤ};
 ghost use lib.ListN.{length, take, drop, replicate};
 ghost use lib.Seq.{paste};
 ghost use Rattle.records.specs.Records.{byteAt, nextAt};
-ghost use Rattle.turns.specs.Turns.{replicasOf};
 ghost use Rattle.shortening.specs.Shortening.{sizeAt, isRecord, isDigit, digitsRead, refusalRead, refusalOf, keptTo, drops, tried, passed, dropped, rounds, mostRecords, recordsIn, shortened, keptRefusal, signed, shortenAnswer, handed, shortenBuffer};
 ghost use Rattle.shortening.specs.Contracts.{Within, Trying, Sound, ScannedFrom, Scanned};
 use limits::INPUT;
-use protocol::Step;
+use protocol::setups;
 use records::Next;
 
 // The most records of an input that is shortened, the bytes that so many have at the most, and room for the lines of so many bytes.
@@ -86,7 +85,7 @@ fn scan(input: &[u8]) -> Met
     }
     match reader::next_at(input, 0) {
         Next::Record(x, n) => {
-            if machine::start_refused(turns::replicas_of(x)) {
+            if setups::is_refused(setups::setup_of(x)) {
                 return Met::Replicas;
             }
             scan_from(input, size_at(input, 0))

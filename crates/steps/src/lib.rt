@@ -5,16 +5,12 @@ ghost use Rattle.replicas.specs.Replicas.{applying};
 ghost use Rattle.joins.specs.{handingOn};
 ghost use Rattle.protocol.specs.Steps.{lost, copied, repeated, sending, advancing, replacing, telling, removing, joining, copyingOn, givingUp};
 use limits::CONTEXTS;
-use limits::HeldFreshness;
 use limits::Number;
 use limits::Operation;
-use limits::REPLICAS;
 use limits::Replica;
 use limits::Table;
 use protocol::Decision;
-use protocol::Message;
 use protocol::Refusal;
-use protocol::answers::NONE;
 use store::Write;
 use switch::cells;
 use waiting::Edit;
@@ -64,10 +60,7 @@ pub fn repeat(opens: &mut [u32; operations::CELLS], held: usize, p: Packet, at: 
 fn send(w: Write) -> Edit
     ensures { λ r. ⌜ r ≡ sending w ⌝ }
 {
-    decisions::add_two(
-        messages::packet_of(Message::Reply(w.operation, w.value, 0, NONE as HeldFreshness)),
-        messages::packet_of(Message::Completion(w.object, w.stamp)),
-    )
+    decisions::add_two(messages::reply_to(w), messages::completion_of(w))
 }
 
 // The tail applies a write, and a newcomer that has its copy of the object gets it too.
@@ -176,9 +169,6 @@ pub fn copy_on(store: &mut [u32; store::CELLS]) -> Decision
 {
     if !joins::is_joining(store) {
         return decisions::refuse(Refusal::NoJoin);
-    }
-    if REPLICAS <= chain::count(store) {
-        return decisions::refuse(Refusal::ChainFull);
     }
     joins::copy(&mut *store);
     decisions::done(decisions::no_edit())

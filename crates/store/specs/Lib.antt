@@ -53,16 +53,26 @@ storeCells = 24939
 
 -- ---- what is read
 
--- 'a chain of n replicas': at most 8 are live in every state
+-- 'up to 8 replicas': at most 8 are live in every state
 unfoldable pub liveCount : List ℕ → ℕ
 liveCount s = min limits.replicas (getD s liveCell 0)
 
--- the table of the replica at a place, and its number; each has 8 bits
+-- a replica in one cell: its table, and above that its number; each has 8 bits
+abbrev pub named : ℕ → ℕ → ℕ
+named number table = 256 * number + table
+
+abbrev pub tableIn : ℕ → ℕ
+tableIn cell = cell % 256
+
+abbrev pub numberIn : ℕ → ℕ
+numberIn cell = cell / 256 % 256
+
+-- the table of the replica at a place, and its number
 unfoldable pub orderAt : List ℕ → ℕ → ℕ
-orderAt s place = getD s (orderCell place) 0 % 256
+orderAt s place = tableIn (getD s (orderCell place) 0)
 
 unfoldable pub numberAt : List ℕ → ℕ → ℕ
-numberAt s place = getD s (orderCell place) 0 / 256 % 256
+numberAt s place = numberIn (getD s (orderCell place) 0)
 
 -- the tables of the live replicas in chain order, the head's first
 unfoldable pub members : List ℕ → List ℕ
@@ -91,7 +101,7 @@ entryAt s position = record {
   stamp = stampIn s (entryStampCell position);
 }
 
--- 'its own value and stamp for each object'
+-- 'Each has a value and stamp per object'
 unfoldable pub valueAt : List ℕ → ℕ → ℕ → ℕ
 valueAt s r o = getD s (valueCell (rowOf r) o) 0
 

@@ -1,6 +1,6 @@
 -- Which of an object's three slots is found first.
 use mathlib.Core.Path.{_≡_, refl, sym, ap, _∙_}
-use mathlib.Core.Bool.{Bool, true, false, cond}
+use mathlib.Core.Bool.{Bool, true, false, cond, true≢false, false≢true}
 use mathlib.Core.Logic.{_⊎_, inl, inr}
 use Prim.Native.Nat.{ℕ, _<_}
 use native.Mathlib.Omega.{arith}
@@ -23,8 +23,8 @@ own-below o i (inr (inr e)) = omega (arith, e, slots-rise o)
 -- two searches agree where their tests agree, and what they find agrees where a test passes
 cond-same : {A : Type 0} (b c : Bool) (x y u v : A) → b ≡ c → (b ≡ true → x ≡ y) → u ≡ v → cond b x u ≡ cond c y v
 cond-same true true x y u v e f g = f refl
-cond-same true false x y u v e f g = absurd (let z : _≡_ {A = ℕ} 0 1 = cc in omega arith)
-cond-same false true x y u v e f g = absurd (let z : _≡_ {A = ℕ} 0 1 = cc in omega arith)
+cond-same true false x y u v e f g = absurd (true≢false e)
+cond-same false true x y u v e f g = absurd (false≢true e)
 cond-same false false x y u v e f g = g
 
 pub first-same : {A : Type 0} (o : ℕ) (s t : ℕ → Bool) (f g : ℕ → A) (n : A) → ((i : ℕ) → Own o i → s i ≡ t i) → ((i : ℕ) → Own o i → s i ≡ true → f i ≡ g i) →

@@ -1,6 +1,6 @@
 -- How the switch's number, counter, last-committed stamp and direct-reads sign move: only as the rules say. And what each slot holds afterwards.
 use mathlib.Core.Path.{_≡_, refl, sym, ap, _∙_}
-use mathlib.Core.Bool.{Bool, true, false, cond, not}
+use mathlib.Core.Bool.{Bool, true, false, cond, not, false≢true}
 use mathlib.Core.List.{List}
 use mathlib.Core.Logic.{_⊎_, inl, inr}
 use Prim.Native.Nat.{ℕ, zero, suc, _+_, _%_, _≤_, _<_}
@@ -13,9 +13,9 @@ use borrow.Author.Tests.{eqb-false, ne-eqb, ltb-true}
 use Rattle.limits.specs.{switchNumbers, lastCounter}
 use Rattle.stamp.specs.Stamps.{stampOf, isAbove, largerOf, stampIn, setStamp}
 use Rattle.stamp.proofs.Cells.{length-stamp, stamp-reads, stamp-same, cell-beside, stamp-beside, stamp-kept}
-use Rattle.stamp.proofs.Laws.{lt-above, le-above, above-false}
+use Rattle.stamp.proofs.Laws.{lt-above, above-false}
 use Rattle.switch.specs.Numbers.{numberCell, counterCell, committedCell, directCell, objectCell, slotStampCell, marksCell, slots, switchCells, numberIn, counterIn, committedIn, directIn, marksIn, slotObject, slotStamp}
-use Rattle.slots.specs.{firstSlot, secondSlot, thirdSlot, holdsObject, isCompleted, countsAbove}
+use Rattle.slots.specs.{firstSlot, secondSlot, thirdSlot, holdsObject, isCompleted}
 use Rattle.switch.specs.DirtySet.{slotFor, nextStamp, marksFor, slotMarked, marking, canMark, marked, stampFor, clearedAt, isOwn, raising, committing, completed, newSwitch, countedMarks}
 use Rattle.switch.proofs.FirstSlot.{slots-rise}
 
@@ -35,7 +35,7 @@ unfolding canMark
 can-mark w o = go (eqb (counterIn w) lastCounter) refl
   where
     go : (a : Bool) → eqb (counterIn w) lastCounter ≡ a → cond a false (ltb (slotFor w o) slots) ≡ true → (slotFor w o < slots) × (counterIn w ≡ lastCounter → ⊥)
-    go true p e = absurd (let z : _≡_ {A = ℕ} 0 1 = cc in omega arith)
+    go true p e = absurd (false≢true e)
     go false p e = (ltb-true (slotFor w o) slots e, eqb-false (counterIn w) lastCounter p)
 
 pub marked-cases : (w : List ℕ) (o : ℕ) → MarkedCases w o
@@ -188,9 +188,9 @@ unfolding isCompleted
 completed-low x s o t = go (holdsObject x s o) (isAbove s t) refl
   where
     go : (a b : Bool) → isAbove s t ≡ b → cond a (cond b false true) false ≡ true → s ≤ t
-    go true true p e = absurd (let z : _≡_ {A = ℕ} 0 1 = cc in omega arith)
+    go true true p e = absurd (false≢true e)
     go true false p e = above-false s t p
-    go false b p e = absurd (let z : _≡_ {A = ℕ} 0 1 = cc in omega arith)
+    go false b p e = absurd (false≢true e)
 
 -- w is v without some marks that the completion t covers: every other number stays
 pub record Covered (t : ℕ) (v w : List ℕ) : Type 0 where

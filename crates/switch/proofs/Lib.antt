@@ -3,3 +3,4 @@ pub mod FirstSlot
 pub mod Laws
 pub mod Lookup
 pub mod Counted
+pub mod Cover

@@ -1,7 +1,7 @@
 -- What look-up gives after a mark, a completion and a replacement. A counting mark is lost only by a completion of its object that is not below it,
 -- by last-committed reaching it, or by replacement.
 use mathlib.Core.Path.{_≡_, refl, sym, ap, _∙_}
-use mathlib.Core.Bool.{Bool, true, false, cond}
+use mathlib.Core.Bool.{Bool, true, false, cond, true≢false, false≢true}
 use mathlib.Core.List.{List}
 use mathlib.Core.Logic.{_⊎_, inl, inr}
 use Prim.Native.Nat.{ℕ, _≤_, _<_}
@@ -43,7 +43,7 @@ unfolding holdsObject
 holds-object x s o = go (eqb s 0)
   where
     go : (b : Bool) → cond b false (eqb x o) ≡ true → x ≡ o
-    go true e = absurd (let z : _≡_ {A = ℕ} 0 1 = cc in omega arith)
+    go true e = absurd (false≢true e)
     go false e = eqb-true x o e
 
 -- the test of look-up, from its two parts
@@ -69,7 +69,7 @@ above-stamp x s o c = go (holdsObject x s o)
   where
     go : (b : Bool) → cond b (isAbove s c) false ≡ true → c < s
     go true e = above-true s c e
-    go false e = absurd (let z : _≡_ {A = ℕ} 0 1 = cc in omega arith)
+    go false e = absurd (false≢true e)
 
 above-holds : (x s o c : ℕ) → holdsAbove x s o c ≡ true → holdsObject x s o ≡ true
 unfolding holdsAbove
@@ -77,14 +77,14 @@ above-holds x s o c = go (holdsObject x s o)
   where
     go : (b : Bool) → cond b (countsAbove s c) false ≡ true → b ≡ true
     go true e = refl
-    go false e = absurd (let z : _≡_ {A = ℕ} 0 1 = cc in omega arith)
+    go false e = absurd (false≢true e)
 
 free-low : (s c : ℕ) → isFree s c ≡ true → s ≤ c
 unfolding isFree countsAbove
 free-low s c = go (isAbove s c) refl
   where
     go : (b : Bool) → isAbove s c ≡ b → cond b false true ≡ true → s ≤ c
-    go true p e = absurd (let z : _≡_ {A = ℕ} 0 1 = cc in omega arith)
+    go true p e = absurd (false≢true e)
     go false p e = above-false s c p
 
 -- ---- where a mark goes
@@ -179,7 +179,7 @@ module _ (w : List ℕ) (o : ℕ) (z : SizedSwitch w) (h : slotFor w o < slots) 
 
       found : (j : ℕ) → Own p j → test p (committedIn w) after j ≡ true → Dec (j ≡ slotFor w o) → slotStamp after j ≡ slotStamp w j
       found j m t (yes e) =
-          absurd (let q : true ≡ false = sym t ∙ ap (test p (committedIn w) after) e ∙ gone in let y : _≡_ {A = ℕ} 0 1 = cc in omega arith)
+          absurd (true≢false (sym t ∙ ap (test p (committedIn w) after) e ∙ gone))
       found j m t (no e) = stamp-unmarked w o (slotFor w o) z h j (own-below p j m) e
 
 -- marking an object gives it the write's stamp for its mark
@@ -229,9 +229,7 @@ lookup-completed w o t p z =
     found : (j : ℕ) → test p c (completed w o t) j ≡ true → Kept j → slotStamp (completed w o t) j ≡ slotStamp w j
     found j e (inl d) = d
     found j e (inr d) =
-        absurd
-        (let y : true ≡ false = sym e ∙ ap (λ (s : ℕ). holdsAbove (slotObject (completed w o t) j) s p c) (d .0) ∙ not-above-unheld _ 0 p c (empty-holds-not _ p) in
-        let x : _≡_ {A = ℕ} 0 1 = cc in omega arith)
+        absurd (true≢false (sym e ∙ ap (λ (s : ℕ). holdsAbove (slotObject (completed w o t) j) s p c) (d .0) ∙ not-above-unheld _ 0 p c (empty-holds-not _ p)))
 
 -- a mark that is above a raised last-committed stamp is still the one that is found
 raised : (w : List ℕ) (p c d : ℕ) → c ≤ d → isAbove (markAbove w p c) d ≡ true → markAbove w p d ≡ markAbove w p c
@@ -252,8 +250,8 @@ raised w p c d l = go (firstSlot p) (go (secondSlot p) (go (thirdSlot p) (λ e. 
 
         by : (a b : Bool) → at c j ≡ a → at d j ≡ b → isAbove (cond a (slotStamp w j) x) d ≡ true → cond b (slotStamp w j) y ≡ cond a (slotStamp w j) x
         by true true q r e = refl
-        by true false q r e = absurd (let z : true ≡ false = sym (higher q (above-true (slotStamp w j) d e)) ∙ r in let k : _≡_ {A = ℕ} 0 1 = cc in omega arith)
-        by false true q r e = absurd (let z : true ≡ false = sym (lower r) ∙ q in let k : _≡_ {A = ℕ} 0 1 = cc in omega arith)
+        by true false q r e = absurd (true≢false (sym (higher q (above-true (slotStamp w j) d e)) ∙ r))
+        by false true q r e = absurd (true≢false (sym (lower r) ∙ q))
         by false false q r e = rest e
 
 -- a counting mark is not lost by a completion, of whichever object, while it is above the completion's stamp

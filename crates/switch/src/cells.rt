@@ -230,7 +230,7 @@ pub fn mark(cells: &mut [u32; CELLS], o: Object) -> Stamp
     }
     let at = slot_for(cells, o);
     if SLOTS <= at {
-        return 0;
+        return 0; // no slot is free
     }
     let stamp = stamp::make(number(cells), counter + 1);
     let marks = marks_for(cells, at, stamp);

@@ -67,7 +67,7 @@ pub fn switch_read(
     if !cells::is_direct(switch) {
         return decisions::pass_on(
             at,
-            Message::NormalRead(chain::tail_number(store), o, x, mark),
+            Message::NormalRead(chain::read_replica_number(store), o, x, mark),
         );
     }
     if mark == 0 {
@@ -79,7 +79,7 @@ pub fn switch_read(
     }
     decisions::pass_on(
         at,
-        Message::NormalRead(chain::tail_number(store), o, x, mark),
+        Message::NormalRead(chain::read_replica_number(store), o, x, mark),
     )
 }
 

@@ -1,12 +1,16 @@
 -- Turns of a run: what was read, the step of the machine and what is concluded from both are the turn that specs/Runs.antt defines; and turns one after the
 -- other.
 use mathlib.Core.Path.{_≡_, refl}
-use mathlib.Core.Bool.{Bool, true, false, cond}
+use mathlib.Core.Bool.{Bool}
 use mathlib.Core.List.{List}
 use Prim.Native.Nat.{ℕ, _-_}
 use Rattle.waiting.specs.declared.Packet.{Packet}
-use Rattle.waiting.specs.Waiting.{waitingList, noneWait}
-use Rattle.protocol.specs.Steps.{Machine, machine, after, steppedBy, startRefused, startSwitch, startStore, startOpens, startWaiting}
+use Rattle.lists.proofs.Tests.{both}
+use Rattle.waiting.specs.Waiting.{WaitingList, waitingList, noneWait}
+use Rattle.protocol.specs.declared.Setup.{Setup}
+use Rattle.protocol.specs.declared.Setup.the-variants.{Missing}
+use Rattle.protocol.specs.Starts.{startRefused}
+use Rattle.protocol.specs.Steps.{Machine, machine, after, steppedBy, startSwitch, startStore, startOpens, startWaiting}
 use Rattle.protocol.proofs.Refusals.{start-keeps}
 use Rattle.records.specs.declared.Next.{Next}
 use Rattle.turns.specs.declared.Run.{Run}
@@ -15,19 +19,15 @@ use Rattle.turns.specs.Turns.{Printed, standing, startedWith, continued,
 use Rattle.turns.specs.Contracts.{Stands, Concludes, concluded, stepIn, standsAs, oneTurn}
 
 -- the run after a start
-module _ (switch store opens : List ℕ) (row : List Packet) (n at : ℕ) where
-  none-waits : waitingList row 0 ≡ startWaiting n (noneWait row)
+module _ (switch store opens : List ℕ) (row : List Packet) (b : Setup) (at : ℕ) where
+  none-waits : waitingList row 0 ≡ startWaiting b (noneWait row)
   unfolding startWaiting noneWait
-  none-waits = go (startRefused n)
-    where
-      go : (t : Bool) → waitingList row 0 ≡ cond t (waitingList row 0) (waitingList row 0)
-      go true = refl
-      go false = refl
+  none-waits = both (λ (w : WaitingList). waitingList row 0 ≡ w) (startRefused b) refl refl
 
-  pub start-stands : (over : Bool) (switch' store' opens' : List ℕ) → over ≡ startRefused n → switch' ≡ startSwitch n switch → store' ≡ startStore n store →
-      opens' ≡ startOpens n opens → standing (machine switch' store' opens' (waitingList row 0)) at 2 over ≡ startedWith (machine switch store opens (noneWait row)) n at .then
+  pub start-stands : (over : Bool) (switch' store' opens' : List ℕ) → over ≡ startRefused b → switch' ≡ startSwitch b switch → store' ≡ startStore b store →
+      opens' ≡ startOpens b opens → standing (machine switch' store' opens' (waitingList row 0)) at 2 over ≡ startedWith (machine switch store opens (noneWait row)) b at .then
   unfolding startedWith noneWait
-  start-stands over switch' store' opens' o a b c = λ j. standing (machine (a j) (b j) (c j) (none-waits j)) at 2 (o j)
+  start-stands over switch' store' opens' o a d c = λ j. standing (machine (a j) (d j) (c j) (none-waits j)) at 2 (o j)
 
 -- ---- one turn
 
@@ -48,13 +48,13 @@ module _ (r : Run) (switch store opens : List ℕ) (row : List Packet) where
   unfolding standsAs
   turn-gives (Next.Record x at) ran buffer out used d = record { stands = rw (d .run) refl; left = rw (d .run) refl; place = d .place; there = d .there }
   turn-gives Next.End ran buffer out used d = record {
-    stands = rw (d .run, start-keeps (modelOf r switch store opens row) 0) refl;
+    stands = rw (d .run, start-keeps (modelOf r switch store opens row) Missing) refl;
     left = rw (d .run) refl;
     place = d .place;
     there = d .there;
   }
   turn-gives Next.Malformed ran buffer out used d = record {
-    stands = rw (d .run, start-keeps (modelOf r switch store opens row) 0) refl;
+    stands = rw (d .run, start-keeps (modelOf r switch store opens row) Missing) refl;
     left = rw (d .run) refl;
     place = d .place;
     there = d .there;

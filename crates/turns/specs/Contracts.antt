@@ -7,6 +7,7 @@ use lib.Dec.{leb, ltb}
 use lib.ListN.{length}
 use Rattle.waiting.specs.declared.Packet.{Packet}
 use Rattle.waiting.specs.Waiting.{waitingList, heldIn}
+use Rattle.protocol.specs.declared.Setup.the-variants.{Missing}
 use Rattle.protocol.specs.declared.Step.{Step}
 use Rattle.protocol.specs.declared.Step.the-variants.{Start}
 use Rattle.protocol.specs.declared.Stepped.{Stepped}
@@ -73,8 +74,8 @@ oneTurn k out used p = turnedTo (p .then) k (putIn out used (p .line)) (placeAft
 -- what is read, and its step; where none is read, one that the machine refuses
 abbrev pub stepIn : Next → Step
 stepIn (Next.Record x at) = x
-stepIn Next.End = Start 0
-stepIn Next.Malformed = Start 0
+stepIn Next.End = Start Missing
+stepIn Next.Malformed = Start Missing
 
 abbrev pub turnOf : Next → Turn
 turnOf f = record { found = f; step = stepIn f }

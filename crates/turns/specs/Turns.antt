@@ -8,10 +8,11 @@ use Rattle.limits.specs as limits
 use Rattle.switch.specs.Numbers.{marksIn}
 use Rattle.waiting.specs.Waiting.{held}
 use Rattle.protocol.specs.declared.Refusal.the-variants.{Format, InputTooLong}
+use Rattle.protocol.specs.declared.Setup.{Setup}
 use Rattle.protocol.specs.declared.Step.{Step}
-use Rattle.protocol.specs.declared.Step.the-variants.{Start, BeginRead, BeginWrite, Deliver, Lose, Repeat, Advance, Replace, Tell, Remove, GiveUp, BeginContext, Join, Copy}
 use Rattle.protocol.specs.Answers.{refusalNumber}
-use Rattle.protocol.specs.Steps.{Machine, answerTo, after, startRefused, startAnswer, afterStart}
+use Rattle.protocol.specs.Starts.{setupOf, startRefused, startAnswer}
+use Rattle.protocol.specs.Steps.{Machine, answerTo, after, afterStart}
 use Rattle.records.specs.declared.Next.{Next}
 use Rattle.records.specs.Records.{nextAt, nextRefusal}
 use Rattle.line_lengths.specs.Lines.{lineOf, noLine}
@@ -36,34 +37,17 @@ prints u l = record { then = u; line = l }
 
 -- ---- the first record. A run is lent a machine whose packets do not wait, whatever else it holds
 
--- the number of replicas of a start; a first record that is read is always one
-abbrev pub replicasOf : Step → ℕ
-replicasOf (Start n) = n
-replicasOf (BeginRead x) = 0
-replicasOf (BeginWrite x v) = 0
-replicasOf (Deliver at choice) = 0
-replicasOf (Lose at) = 0
-replicasOf (Repeat at) = 0
-replicasOf (Advance r) = 0
-replicasOf (Replace number) = 0
-replicasOf (Tell r) = 0
-replicasOf (Remove r) = 0
-replicasOf (GiveUp o) = 0
-replicasOf (BeginContext x) = 0
-replicasOf Join = 0
-replicasOf Copy = 0
-
 -- nothing is run: the run is over, and what is lent is as it was
 unfoldable pub stopped : Machine → List ℕ → Printed
 stopped m line = prints (standing m 0 1 true) line
 
 -- the line of a start; 'After 1 or 2 it ends'
-unfoldable pub startedWith : Machine → ℕ → ℕ → Printed
-startedWith m n at = prints (standing (afterStart n m) at 2 (startRefused n)) (lineOf 1 (startAnswer n) 0 0)
+unfoldable pub startedWith : Machine → Setup → ℕ → Printed
+startedWith m b at = prints (standing (afterStart b m) at 2 (startRefused b)) (lineOf 1 (startAnswer b) 0 0)
 
 -- 'Empty input prints only `1 no 1`', and so does any input that begins with no start
 abbrev pub firstRead : Machine → Next → Printed
-firstRead m (Next.Record x at) = startedWith m (replicasOf x) at
+firstRead m (Next.Record x at) = startedWith m (setupOf x) at
 firstRead m Next.End = stopped m (noLine 1 (refusalNumber Format))
 firstRead m Next.Malformed = stopped m (noLine 1 (nextRefusal Next.Malformed))
 

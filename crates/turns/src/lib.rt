@@ -10,15 +10,17 @@ ghost use Rattle.protocol.specs.Steps.{machine};
 ghost use Rattle.protocol.specs.declared.Refusal.the-variants.{Format, InputTooLong};
 ghost use Rattle.line_lengths.specs.Lines.{noLine};
 ghost use Rattle.lines.specs.Text.{putIn};
-ghost use Rattle.turns.specs.Turns.{nextNumber, readNext, replicasOf, stopped, startedWith, firstPrinted};
+ghost use Rattle.turns.specs.Turns.{nextNumber, readNext, stopped, startedWith, firstPrinted};
 ghost use Rattle.turns.specs.Contracts.{placeAfter, goesOn, Stands, oneTurn, Concludes, turnOf, goingOn, overRun, concluded};
 use limits::INPUT;
 use limits::LAST_RECORD_NUMBER;
 use limits::RecordNumber;
 use protocol::Refusal;
+use protocol::Setup;
 use protocol::Step;
 use protocol::Stepped;
 use protocol::answers;
+use protocol::setups;
 use records::Next;
 use waiting::Packet;
 
@@ -95,11 +97,11 @@ fn turn_of(found: Next) -> Turn
         Next::Record(x, at) => Turn { found, step: x },
         Next::End => Turn {
             found,
-            step: Step::Start(0),
+            step: Step::Start(Setup::Missing),
         },
         Next::Malformed => Turn {
             found,
-            step: Step::Start(0),
+            step: Step::Start(Setup::Missing),
         },
     }
 }
@@ -180,27 +182,6 @@ pub fn conclude(run: Run, found: Next, done: Stepped, out: &mut [u8], used: usiz
 
 // ---- the first record
 
-pub fn replicas_of(x: Step) -> u8
-    ensures { λ r. ⌜ r ≡ replicasOf x ⌝ }
-{
-    match x {
-        Step::Start(n) => n,
-        Step::BeginRead(x) => 0,
-        Step::BeginWrite(x, v) => 0,
-        Step::Deliver(at, choice) => 0,
-        Step::Lose(at) => 0,
-        Step::Repeat(at) => 0,
-        Step::Advance(r) => 0,
-        Step::Replace(number) => 0,
-        Step::Tell(r) => 0,
-        Step::Remove(r) => 0,
-        Step::GiveUp(o) => 0,
-        Step::BeginContext(x) => 0,
-        Step::Join => 0,
-        Step::Copy => 0,
-    }
-}
-
 // Nothing is run: the line of a refusal goes to the buffer's start.
 fn stop(out: &mut [u8], number: RecordNumber, why: Refusal, turns: usize) -> Ran
     ensures { λ r. ⌜ ((switch store opens : List ℕ) (row : List Packet) → Stands r switch store opens row (now (out .exit))
@@ -220,9 +201,9 @@ fn stop(out: &mut [u8], number: RecordNumber, why: Refusal, turns: usize) -> Ran
     }
 }
 
-// The run after a start with n replicas; the next record is at `at`, and at most so many turns follow.
+// The run after a start; the next record is at `at`, and at most so many turns follow.
 fn start_with(
-    n: u8,
+    b: Setup,
     at: usize,
     turns: usize,
     switch: &mut [u32; switch::CELLS],
@@ -231,10 +212,10 @@ fn start_with(
     out: &mut [u8],
 ) -> Ran
     ensures { λ r. ⌜ ((row : List Packet) → Stands r (now (switch .exit)) (now (store .exit)) (now (opens .exit)) row (now (out .exit))
-        (oneTurn turns (now (out .entry)) 0 (startedWith (machine (now (switch .entry)) (now (store .entry)) (now (opens .entry)) (noneWait row)) n at))) ⌝ }
+        (oneTurn turns (now (out .entry)) 0 (startedWith (machine (now (switch .entry)) (now (store .entry)) (now (opens .entry)) (noneWait row)) b at))) ⌝ }
 {
-    let answer = machine::start(n, &mut *switch, &mut *store, &mut *opens);
-    let over = machine::start_refused(n);
+    let answer = machine::start(b, &mut *switch, &mut *store, &mut *opens);
+    let over = setups::is_refused(b);
     let bytes = lines::put_answer(&mut *out, 0, 1, answer, 0, 0);
     let run = Run {
         count: 0,
@@ -266,7 +247,7 @@ pub fn first(
     }
     match reader::read_at(input, 0) {
         Next::Record(x, at) => start_with(
-            replicas_of(x),
+            setups::setup_of(x),
             at,
             turns,
             &mut *switch,

@@ -136,6 +136,25 @@ pub edited-over-taking : (w : WaitingList) (e : Edit) → e .take ≡ true → e
 edited-over-taking w e t k h =
     edited-not w e (fits-over (length (w .packets)) (leftBy (w .count) e) (e .add) (omega (arith, h, left-one (w .count) e t k)))
 
+-- an edit as it would be without a look at the limit: the same where it fits
+abbrev pub editedWhole : WaitingList → Edit → WaitingList
+editedWhole w e = waitingList (adding (afterTaking w e) (leftBy (w .count) e) e) (leftBy (w .count) e + e .add)
+
+pub whole-adding : (w : WaitingList) (e : Edit) → limits.waiting ≤ length (w .packets) → e .take ≡ false → 0 < e .add → held w + e .add ≤ limits.waiting → edited w e ≡ editedWhole w e
+unfolding heldIn
+whole-adding w e wide t some h =
+    edited-fits w e (roomy-fits (length (w .packets)) (leftBy (w .count) e) (e .add) wide (omega (arith, left-all (w .count) e t, some, h)))
+
+pub whole-taking : (w : WaitingList) (e : Edit) → limits.waiting ≤ length (w .packets) → e .take ≡ true → e .at < held w → held w - 1 + e .add ≤ limits.waiting → edited w e ≡ editedWhole w e
+whole-taking w e wide t k h =
+    edited-fits w e (roomy-fits (length (w .packets)) (leftBy (w .count) e) (e .add) wide (omega (arith, left-one (w .count) e t k, h)))
+
+pub whole-none : (w : WaitingList) (e : Edit) → e .take ≡ false → e .add ≡ 0 → editedWhole w e ≡ w
+whole-none w e t n = λ j. waitingList ((adds-none (afterTaking w e) (leftBy (w .count) e) e n ∙ after-all w e t) j) (count j)
+  where
+    count : leftBy (w .count) e + e .add ≡ w .count
+    count = omega (arith, left-all (w .count) e t, n)
+
 -- an edit that takes no packet out and adds none changes nothing
 pub edited-none : (w : WaitingList) (e : Edit) → e .take ≡ false → e .add ≡ 0 → edited w e ≡ w
 edited-none w e t n = go (fits (length (w .packets)) (leftBy (w .count) e) (e .add)) refl

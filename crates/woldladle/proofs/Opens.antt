@@ -1,68 +1,36 @@
 -- No operation of a session has number 0, so that 0 can stand for none: what every start gives, and every step keeps.
-use mathlib.Core.Path.{_≡_, refl, sym, ap, _∙_}
-use mathlib.Core.Logic.{inl, inr}
-use mathlib.Core.Bool.{Bool, true, false, cond}
+use mathlib.Core.Path.{_≡_, sym, ap, _∙_}
+use mathlib.Core.Bool.{false}
 use mathlib.Core.List.{List}
-use Prim.Native.Nat.{ℕ, _+_, _≤_}
-use native.Mathlib.Omega.{arith}
-use lib.Dec.{leb, ltb}
-use lib.ListN.{length}
-use Rattle.limits.specs as limits
-use Rattle.operations.specs.{lastGiven, noneOpen, isOpen, roomToOpen, opening, closing}
-use Rattle.operations.proofs.Laws.{SizedOpens, sized-none, sized-opening, sized-closing, none-open, OpenOnce, once-none, once-opening, once-closing, open-before, open-after-closing, last-opening, last-closing}
-use Rattle.operations.proofs.Behind.{SameOpens, same-last, same-open, same-once}
+use Prim.Native.Nat.{ℕ, _≤_}
+use Rattle.lists.proofs.Tests.{both}
+use Rattle.operations.proofs.Counted.{Counted, counted-none, counted-same, counted-opening, counted-closing}
 use Rattle.contexts.specs.declared.Context.{Context}
-use Rattle.contexts.specs.declared.Objects.{Objects}
-use Rattle.contexts.specs.{contextOf, mapped, areObjects, areDifferent, isCount, isContext, contextAt, freeRow, holding, freeing}
+use Rattle.contexts.specs.{holding, freeing}
 use Rattle.contexts.proofs.Places.{count-some}
 use Rattle.contexts.proofs.Rows.{opens-holding, sized-holding, opens-freeing, sized-freeing}
-use Rattle.store.specs.{valueAt}
-use Rattle.chain.specs.{isMember, isTail, tableOf}
 use Rattle.waiting.specs.declared.Packet.{Packet}
-use Rattle.waiting.specs.Waiting.{lookAt}
 use Rattle.protocol.specs.declared.Answer.the-variants.{Finished, FinishedContext}
 use Rattle.protocol.specs.declared.Message.{Message}
-use Rattle.protocol.specs.declared.Message.the-variants.{UnstampedWrite, SwitchRead, StampedWrite, DirectRead, NormalRead, Completion, Reply, ContextRead, DirectContext, NormalContext, ContextReply, Unknown}
 use Rattle.protocol.specs.declared.Step.{Step}
-use Rattle.protocol.specs.declared.Step.the-variants.{Start, BeginRead, BeginWrite, Deliver, Lose, Repeat, Advance, Replace, Tell, Remove, GiveUp, BeginContext, Join, Copy}
-use Rattle.protocol.specs.Messages.{messageOf, isUnstamped, isOfContext}
-use Rattle.protocol.specs.Decisions.{Given, Outcome, Opened, overfull}
-use Rattle.protocol.specs.Contexts.{released, leaving, droppingRow, goesDirectly, contextRead, answersContext, answeringContext, directContext, normalContext, contextReply}
-use Rattle.protocol.specs.Delivery.{reply, deliveredMessage}
-use Rattle.protocol.specs.Steps.{Machine, givenBy, positionOf, isMalformed, beginOperation, beginContext, delivered, lost, copied, repeated, givingUp, decided, decidedIn, answerTo, after, startRefused, startOpens}
+use Rattle.protocol.specs.Messages.{isOfContext}
+use Rattle.protocol.specs.Contexts.{released}
+use Rattle.protocol.specs.declared.Setup.{Setup}
+use Rattle.protocol.specs.Starts.{startRefused}
+use Rattle.protocol.specs.Steps.{Machine, answerTo, after, startOpens}
 use Rattle.protocol.proofs.Refusals.{finished-by-deliver, context-by-deliver}
 use Rattle.protocol.proofs.Finished.{finished-by-reply, context-by-reply}
-
--- the open numbers are told apart, and lie between 1 and the last that was given
-pub record Counted (l : List ℕ) : Type 0 where
-  pub sized : SizedOpens l
-  pub once : OpenOnce l
-  pub from-1 : (o : ℕ) → isOpen l o ≡ true → (1 ≤ o) × (o ≤ lastGiven l)
-
-counted-none : Counted noneOpen
-counted-none = record { sized = sized-none; once = once-none; from-1 = λ o e. absurd (none-open o e) }
+use Rattle.waiting.specs.declared.Edit.{Edit}
+use Rattle.protocol.specs.declared.Answer.{Answer}
+use Rattle.protocol.specs.Roles.{Role}
+use Rattle.protocol.proofs.Effects.{OpensEffect, quiet, begins-read, begins-write, finishes, finishes-context, gives-up, RowEffect, rows-kept, row-passed, row-answered, row-freed, row-released, row-given, row-copied, effect}
 
 -- an accepted start gives it
-pub counted-start : (n : ℕ) (l : List ℕ) → startRefused n ≡ false → Counted (startOpens n l)
+pub counted-start : (b : Setup) (l : List ℕ) → startRefused b ≡ false → Counted (startOpens b l)
 unfolding startOpens
-counted-start n l e = rw e counted-none
-
--- what holds either way of a test holds of what it chooses
-by-test : {A : Type 0} (P : A → Type 0) (b : Bool) {y z : A} → (b ≡ true → P y) → (b ≡ false → P z) → P (cond b y z)
-by-test P true p q = p refl
-by-test P false p q = q refl
-
-both : {A : Type 0} (P : A → Type 0) (b : Bool) {y z : A} → P y → P z → P (cond b y z)
-both P b p q = by-test P b (λ e. p) (λ e. q)
+counted-start b l e = rw e counted-none
 
 -- the cells behind the open operations do not matter
-counted-same : {l l' : List ℕ} → SameOpens l l' → SizedOpens l' → Counted l → Counted l'
-counted-same s z c = record {
-  sized = z;
-  once = same-once s (c .once);
-  from-1 = λ o e. let was = c .from-1 o (sym (same-open s o) ∙ e) in (was .0, omega (arith, was .1, same-last s));
-}
-
 counted-holding : {l : List ℕ} → Counted l → (r : ℕ) (v : Context) → Counted (holding l r v)
 counted-holding {l} c r v = counted-same (opens-holding l r v) (sized-holding l r v (c .sized)) c
 
@@ -71,125 +39,30 @@ counted-freeing {l} c r = counted-same (opens-freeing l r) (sized-freeing l r (c
 
 -- ---- the open operations after a step
 module _ {l : List ℕ} (c : Counted l) where
-  abbrev next : ℕ
-  next = lastGiven l + 1
+  -- an operation begins, finishes or is given up
+  counted-opens : {k : Role} {a : Answer} {l' : List ℕ} → OpensEffect k l a l' → Counted l'
+  counted-opens (quiet q) = c
+  counted-opens (begins-read xs e room) = counted-opening c room
+  counted-opens (begins-write x v e room) = counted-opening c room
+  counted-opens (finishes at o v f e still) = counted-closing c o still
+  counted-opens (finishes-context at o v e still) = counted-closing c o still
+  counted-opens (gives-up o e still) = counted-closing c o still
 
-  next-shut : (t : Bool) → isOpen l next ≡ t → isOpen l next ≡ false
-  next-shut true e = absurd (omega (arith, c .from-1 next e))
-  next-shut false e = e
-
-  counted-opening : roomToOpen l ≡ true → Counted (opening l next)
-  counted-opening room = record {
-    sized = sized-opening l next (c .sized);
-    once = once-opening l next (c .sized) room (next-shut (isOpen l next) refl) (c .once);
-    from-1 = λ o e.
-        elim (open-before l next (c .sized) room o e) [
-          | inl q ↦ omega (arith, last-opening l next (c .sized) room)
-          | inr q ↦ omega (arith, c .from-1 o q, last-opening l next (c .sized) room)
-        ];
-  }
-
-  counted-closing : (o : ℕ) → isOpen l o ≡ true → Counted (closing l o)
-  counted-closing o still = record {
-    sized = sized-closing l o (c .sized);
-    once = once-closing l o (c .sized) still (c .once);
-    from-1 = λ p e.
-        let was = c .from-1 p (open-after-closing l o (c .sized) still (c .once) p e .0) in omega (arith, was, last-closing l o (c .sized) still);
-  }
-
-  counted-begin : (held : ℕ) (isWrite : Bool) (x v : ℕ) → Counted (beginOperation l held isWrite x v .opens)
-  unfolding beginOperation
-  counted-begin held isWrite x v =
-      let P : Opened → Type 0 = λ u. Counted (u .opens) in
-      both P (leb limits.objects x) c
-      (both P (leb limits.lastOperation (lastGiven l)) c
-      (by-test P (roomToOpen l) (λ room. both P (overfull held 0 1) c (counted-opening room)) (λ full. c)))
-
-  counted-context : (held : ℕ) (x : Objects) → Counted (beginContext l held x .opens)
-  unfolding beginContext
-  counted-context held x =
-      let P : Opened → Type 0 = λ u. Counted (u .opens) in
-      both P (areObjects (contextOf x))
-      (both P (areDifferent (contextOf x))
-      (both P (leb limits.lastOperation (lastGiven l)) c
-      (by-test P (roomToOpen l)
-      (λ room. both P (overfull held 0 1) c
-      (both P (ltb (freeRow l) limits.contexts) (counted-holding (counted-opening room) (freeRow l) (contextOf x)) c))
-      (λ full. c))) c) c
-
-  counted-leaves : (p : Packet) (at : ℕ) → Counted (leaving l p at .opens)
-  unfolding leaving released
-  counted-leaves p at = both Counted (isOfContext p) (counted-freeing c (p .value)) c
-
-  counted-copied : (p : Packet) → Counted (copied l p .opens)
-  unfolding copied
-  counted-copied p =
-      let P : Opened → Type 0 = λ u. Counted (u .opens) in
-      both P (isOfContext p) (both P (ltb (freeRow l) limits.contexts) (counted-holding c (freeRow l) (contextAt l (p .value))) c) c
-
-module _ (g : Given) (c : Counted (g .opens)) where
-  abbrev Keeps : Opened → Type 0
-  Keeps u = Counted (u .opens)
-
-  counted-dropped : (at r : ℕ) → Keeps (droppingRow (g .opens) at r)
-  unfolding droppingRow
-  counted-dropped at r = counted-freeing c r
-
-  counted-answered : (at q o r : ℕ) → Keeps (answeringContext (g .store) (g .opens) at q o r)
-  unfolding answeringContext
-  counted-answered at q o r = counted-holding c r (mapped (valueAt (g .store) q) (contextAt (g .opens) r))
-
-  counted-message : (at choice : ℕ) (q : Message) → Counted (deliveredMessage g at choice q .opens)
-  unfolding deliveredMessage reply contextRead directContext normalContext contextReply
-  counted-message at choice (UnstampedWrite o x v) = c
-  counted-message at choice (SwitchRead o x) = c
-  counted-message at choice (StampedWrite r w) = c
-  counted-message at choice (DirectRead r number t o x) = c
-  counted-message at choice (NormalRead r o x t) = c
-  counted-message at choice (Completion x t) = c
-  counted-message at choice (Reply o v t f) = by-test (λ (u : Opened). Counted (u .opens)) (isOpen (g .opens) o) (counted-closing c o) (λ shut. c)
-  counted-message at choice (ContextRead o r) =
-      both Keeps (isContext (contextAt (g .opens) r)) (both Keeps (goesDirectly (g .switch) (contextAt (g .opens) r)) c c) (counted-dropped at r)
-  counted-message at choice (DirectContext q number t o r) =
-      both Keeps (isMember (g .store) q)
-      (both Keeps (isContext (contextAt (g .opens) r))
-      (both Keeps (answersContext (g .store) (tableOf (g .store) q) number t (contextAt (g .opens) r)) (counted-answered at (tableOf (g .store) q) o r) c)
-      (counted-dropped at r)) (counted-dropped at r)
-  counted-message at choice (NormalContext q o r) =
-      both Keeps (isMember (g .store) q)
-      (both Keeps (isContext (contextAt (g .opens) r)) (both Keeps (isTail (g .store) q) (counted-answered at (tableOf (g .store) q) o r) c) (counted-dropped at r))
-      (counted-dropped at r)
-  counted-message at choice (ContextReply o r) =
-      by-test Keeps (isOpen (g .opens) o)
-      (λ still. both Keeps (isCount (contextAt (g .opens) r .count)) (counted-freeing (counted-closing c o still) r) (counted-dropped at r)) (λ shut. counted-dropped at r)
-  counted-message at choice Unknown = c
-
-  counted-decided : (p : Packet) (x : Step) → Counted (decided g p x .opens)
-  unfolding decided delivered lost repeated givingUp
-  counted-decided p (Start n) = c
-  counted-decided p (BeginRead x) = counted-begin c (g .held) false x 0
-  counted-decided p (BeginWrite x v) = counted-begin c (g .held) true x v
-  counted-decided p (Deliver at choice) =
-      let P : Outcome → Type 0 = λ u. Counted (u .opens) in
-      both P (leb (g .held) at) c (both P (leb limits.objects (p .object)) (counted-leaves c p at) (counted-message at choice (messageOf p)))
-  counted-decided p (Lose at) = both Keeps (leb (g .held) at) c (counted-leaves c p at)
-  counted-decided p (Repeat at) = both Keeps (leb (g .held) at) c (both Keeps (isUnstamped p) c (both Keeps (overfull (g .held) 0 1) c (counted-copied c p)))
-  counted-decided p (Advance r) = c
-  counted-decided p (Replace number) = c
-  counted-decided p (Tell r) = c
-  counted-decided p (Remove r) = c
-  counted-decided p (GiveUp o) = by-test (λ (u : Opened). Counted (u .opens)) (isOpen (g .opens) o) (counted-closing c o) (λ shut. c)
-  counted-decided p (BeginContext x) = counted-context c (g .held) x
-  counted-decided p Join = c
-  counted-decided p Copy = c
+  -- a row changes
+  counted-rows : {p : Packet} {q : Message} {held : ℕ} {e : Edit} {l' : List ℕ} → RowEffect p q held e l l' → Counted l'
+  unfolding released
+  counted-rows (rows-kept n) = c
+  counted-rows (row-passed at r q i n k e) = c
+  counted-rows (row-answered at r v q i n k e) = counted-holding c r v
+  counted-rows (row-freed r n) = counted-freeing c r
+  counted-rows {p} row-released = both Counted (isOfContext p) (counted-freeing c (p .value)) c
+  counted-rows (row-given r v q h n e) = counted-holding c r v
+  counted-rows (row-copied r v h k e) = counted-holding c r v
 
 -- every step keeps it
 pub counted-step : (m : Machine) (x : Step) → Counted (m .opens) → Counted (after m x .opens)
-unfolding after decidedIn
-counted-step m x c =
-    let P : Outcome → Type 0 = λ u. Counted (u .opens) in
-    both P (isMalformed x) c
-    (both P (ltb (length (m .waiting .packets)) limits.waiting) c (counted-decided (givenBy m) c (lookAt (m .waiting .packets) (positionOf x)) x))
+unfolding after
+counted-step m x c = counted-rows (counted-opens c (effect m x .opens)) (effect m x .rows)
 
 -- an operation that finishes is open, so it has a number from 1 on
 pub finished-from-1 : (m : Machine) (x : Step) → Counted (m .opens) → (o v f : ℕ) → answerTo m x ≡ Finished o v f → 1 ≤ o

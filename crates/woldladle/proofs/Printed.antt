@@ -16,17 +16,21 @@ use Rattle.protocol.specs.declared.Answer.{Answer}
 use Rattle.protocol.specs.declared.Answer.the-variants.{Done, Finished, FinishedContext, Refused}
 use Rattle.protocol.specs.declared.Refusal.{Refusal}
 use Rattle.protocol.specs.declared.Refusal.the-variants.{Format, Replicas, ObjectNumber, OperationsUsedUp, OpenFull, WaitingFull, NoPacket, UnstampedRepeat, NotLive, NoLinkedWrite, SwitchNumber, LastReplica, NotOpen, InputTooLong, BufferTooShort, SameObject, ChainFull, JoinUnderWay, NoJoin}
+use Rattle.protocol.specs.declared.Setup.{Setup}
 use Rattle.protocol.specs.declared.Step.{Step}
+use Rattle.protocol.specs.declared.Step.the-variants.{Start}
 use Rattle.protocol.specs.Answers.{refusalNumber}
-use Rattle.protocol.specs.Steps.{Machine, answerTo, after, steppedBy, startRefused, startAnswer}
+use Rattle.protocol.specs.Starts.{setupOf, startRefused, startRefusal, startAnswer}
+use Rattle.protocol.specs.Steps.{Machine, answerTo, after, steppedBy}
 use Rattle.protocol.proofs.Refusals.{start-cases}
 use Rattle.records.specs.declared.Found.{Found}
 use Rattle.records.specs.Records.{recordAt}
 use Rattle.line_lengths.specs.Lines.{lineOf}
 use Rattle.sessions.specs.declared.Session.{Session}
-use Rattle.sessions.specs.{refusalIn, operationIn, valuesIn, freshnessIn, sessionStarted, wholeStep, askedBy, sessionAfter}
+use Rattle.sessions.specs.{refusalIn, operationIn, valuesIn, freshnessIn, wholeStep, askedBy, startAsked, sessionStarted, marksAfter, sessionAfter}
 use Rattle.session_lines.specs.{contextFrom, answerFrom, lineFor}
-use Rattle.woldladle.proofs.Opens.{Counted, finished-from-1, context-from-1}
+use Rattle.operations.proofs.Counted.{Counted}
+use Rattle.woldladle.proofs.Opens.{finished-from-1, context-from-1}
 
 -- the line of a session, as record k
 abbrev pub lineIn : ℕ → Session → List ℕ
@@ -54,16 +58,17 @@ numbered ChainFull = refl
 numbered JoinUnderWay = refl
 numbered NoJoin = refl
 
--- an answer's numbers give its line, where it finishes no operation 0
-line-of : (k : ℕ) (a : Answer) (waiting marks : ℕ) → ((o v f : ℕ) → a ≡ Finished o v f → 1 ≤ o) →
+-- an answer's numbers give its line, where it finishes no operation 0; the line of a refusal has no marks
+line-of : (k : ℕ) (a : Answer) (waiting before marks : ℕ) → ((o v f : ℕ) → a ≡ Finished o v f → 1 ≤ o) →
     ((o : ℕ) (v : Context) → a ≡ FinishedContext o v → (1 ≤ o) × (2 ≤ v .count)) →
-    lineFor k (refusalIn a) (operationIn a) (valuesIn a .count) (placesOf (valuesIn a)) (freshnessIn a) waiting marks ≡ lineOf k a (heldIn waiting) marks
-unfolding lineFor answerFrom contextFrom lineOf
-line-of k Done waiting marks h d = refl
-line-of k (Finished o v f) waiting marks h d = rw (ne-eqb o 0 (λ e. omega (arith, h o v f refl, e)))
-line-of k (FinishedContext o v) waiting marks h d =
+    lineFor k (refusalIn a) (operationIn a) (valuesIn a .count) (placesOf (valuesIn a)) (freshnessIn a) waiting (marksAfter before (refusalIn a) marks)
+    ≡ lineOf k a (heldIn waiting) marks
+unfolding lineFor answerFrom contextFrom lineOf marksAfter
+line-of k Done waiting before marks h d = refl
+line-of k (Finished o v f) waiting before marks h d = rw (ne-eqb o 0 (λ e. omega (arith, h o v f refl, e)))
+line-of k (FinishedContext o v) waiting before marks h d =
     let t = d o v refl in rw (ne-eqb o 0 (λ e. omega (arith, t .0, e)), le-ltb (v .count) 2 (t .1))
-line-of k (Refused r) waiting marks h d = rw (numbered r)
+line-of k (Refused r) waiting before marks h d = rw (numbered r)
 
 -- the step of a record that fills the lent bytes
 asked-whole : (bytes : List ℕ) (x : Step) → recordAt bytes 0 ≡ Found.Record x (length bytes) → askedBy bytes ≡ x
@@ -71,18 +76,23 @@ unfolding askedBy
 asked-whole bytes x e = ap (λ (f : Found). wholeStep f (length bytes)) e ∙ rw (eq-eqb (length bytes) (length bytes) refl)
 
 -- after a step: the line of crates/runs/specs/Runs.antt, `lineAfter`
-pub step-line : (k : ℕ) (m : Machine) (bytes : List ℕ) (x : Step) → Counted (m .opens) → recordAt bytes 0 ≡ Found.Record x (length bytes) →
-    lineIn k (sessionAfter (steppedBy m (askedBy bytes))) ≡ lineOf k (answerTo m x) (held (after m x .waiting)) (marksIn (after m x .switch))
+pub step-line : (k before : ℕ) (m : Machine) (bytes : List ℕ) (x : Step) → Counted (m .opens) → recordAt bytes 0 ≡ Found.Record x (length bytes) →
+    lineIn k (sessionAfter before (steppedBy m (askedBy bytes))) ≡ lineOf k (answerTo m x) (held (after m x .waiting)) (marksIn (after m x .switch))
 unfolding sessionAfter
-step-line k m bytes x c e =
-    ap (λ (y : Step). lineIn k (sessionAfter (steppedBy m y))) (asked-whole bytes x e)
-    ∙ line-of k (answerTo m x) (after m x .waiting .count) (marksIn (after m x .switch)) (finished-from-1 m x c) (context-from-1 m x c)
+step-line k before m bytes x c e =
+    ap (λ (y : Step). lineIn k (sessionAfter before (steppedBy m y))) (asked-whole bytes x e)
+    ∙ line-of k (answerTo m x) (after m x .waiting .count) before (marksIn (after m x .switch)) (finished-from-1 m x c) (context-from-1 m x c)
 
 -- after a start: the line of its `startedWith`
-pub start-line : (k n : ℕ) (u : Session) → lineIn k (sessionStarted n u) ≡ lineOf k (startAnswer n) 0 0
+setup-line : (k : ℕ) (b : Setup) (u : Session) → lineIn k (sessionStarted b u) ≡ lineOf k (startAnswer b) 0 0
 unfolding sessionStarted lineFor answerFrom lineOf heldIn
-start-line k n u = go (start-cases n)
+setup-line k b u = go (start-cases b)
   where
-    go : ((startRefused n ≡ true) × (startAnswer n ≡ Refused Replicas)) ⊎ ((startRefused n ≡ false) × (startAnswer n ≡ Done)) → lineIn k (sessionStarted n u) ≡ lineOf k (startAnswer n) 0 0
-    go (inl e) = rw (e .1)
+    go : ((startRefused b ≡ true) × (startAnswer b ≡ Refused (startRefusal b))) ⊎ ((startRefused b ≡ false) × (startAnswer b ≡ Done)) → lineIn k (sessionStarted b u) ≡ lineOf k (startAnswer b) 0 0
+    go (inl e) = rw (e .1, numbered (startRefusal b))
     go (inr e) = rw (e .0, e .1)
+
+pub start-line : (k : ℕ) (bytes : List ℕ) (b : Setup) (u : Session) → recordAt bytes 0 ≡ Found.Record (Start b) (length bytes) →
+    lineIn k (sessionStarted (startAsked bytes) u) ≡ lineOf k (startAnswer b) 0 0
+unfolding startAsked
+start-line k bytes b u e = ap (λ (y : Step). lineIn k (sessionStarted (setupOf y) u)) (asked-whole bytes (Start b) e) ∙ setup-line k b u

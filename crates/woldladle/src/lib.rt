@@ -7,26 +7,26 @@ ghost use Rattle.replica_values.specs.{valueOf, stampHeld, chainOf};
 ghost use Rattle.lines.specs.Text.{putIn};
 ghost use Rattle.waiting.specs.Waiting.{waitingList};
 ghost use Rattle.protocol.specs.Steps.{machine, after, steppedBy, startSwitch, startStore, startOpens};
-ghost use Rattle.sessions.specs.{sessionStarted, askedBy, sessionAfter};
+ghost use Rattle.sessions.specs.{startAsked, sessionStarted, askedBy, sessionAfter};
 use sessions::Session;
 use waiting::Packet;
 
-// A start with n replicas.
+// The start of one record, which is all of the lent bytes.
 #[no_mangle]
 pub extern "C" fn woldladle_start(
     session: &mut Session,
     switch: &mut [u32; switch::CELLS],
     store: &mut [u32; store::CELLS],
     opens: &mut [u32; operations::CELLS],
-    n: u8,
+    bytes: &[u8],
 )
-    ensures { λ _. ⌜ (now (session .exit) ≡ sessionStarted n (now (session .entry)))
-        × (now (switch .exit) ≡ startSwitch n (now (switch .entry)))
-        × (now (store .exit) ≡ startStore n (now (store .entry)))
-        × (now (opens .exit) ≡ startOpens n (now (opens .entry))) ⌝ }
+    ensures { λ _. ⌜ (now (session .exit) ≡ sessionStarted (startAsked (now (bytes .entry))) (now (session .entry)))
+        × (now (switch .exit) ≡ startSwitch (startAsked (now (bytes .entry))) (now (switch .entry)))
+        × (now (store .exit) ≡ startStore (startAsked (now (bytes .entry))) (now (store .entry)))
+        × (now (opens .exit) ≡ startOpens (startAsked (now (bytes .entry))) (now (opens .entry))) ⌝ }
 {
     let before = *session;
-    *session = sessions::begin(before, switch, store, opens, n);
+    *session = sessions::begin(before, switch, store, opens, bytes);
 }
 
 // The step of one record, which is all of the lent bytes.
@@ -39,7 +39,7 @@ pub extern "C" fn woldladle_step(
     packets: &mut [Packet],
     bytes: &[u8],
 )
-    ensures { λ _. ⌜ (now (session .exit) ≡ sessionAfter
+    ensures { λ _. ⌜ (now (session .exit) ≡ sessionAfter (now (session .entry) .marks)
         (steppedBy (machine (now (switch .entry)) (now (store .entry)) (now (opens .entry)) (waitingList (now (packets .entry)) (now (session .entry) .waiting))) (askedBy (now (bytes .entry)))))
         × (now (switch .exit) ≡ after (machine (now (switch .entry)) (now (store .entry)) (now (opens .entry)) (waitingList (now (packets .entry)) (now (session .entry) .waiting))) (askedBy (now (bytes .entry))) .switch)
         × (now (store .exit) ≡ after (machine (now (switch .entry)) (now (store .entry)) (now (opens .entry)) (waitingList (now (packets .entry)) (now (session .entry) .waiting))) (askedBy (now (bytes .entry))) .store)
@@ -49,7 +49,7 @@ pub extern "C" fn woldladle_step(
     let before = *session;
     let x = sessions::asked(bytes);
     let done = machine::step(switch, store, opens, packets, before.waiting, x);
-    *session = sessions::noted(done);
+    *session = sessions::noted(before.marks, done);
 }
 
 // The line of record `number`, from the fields of its session, at the start of the buffer. How many bytes it has: 0 where the buffer is too short, and

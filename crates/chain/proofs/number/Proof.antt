@@ -22,14 +22,14 @@ unfolding numbered
 loop-holds c = (refl, omega arith)
 
 -- one more is numbered
-numbered-more : (s : List ℕ) (i : ℕ) → numbered s (i + 1) ≡ set (set (numbered s i) (1 + i) (257 * (i + 1))) (permitCell i) 1
+numbered-more : (s : List ℕ) (i : ℕ) → numbered s (i + 1) ≡ set (set (numbered s i) (1 + i) (256 * (i + 1) + (i + 1))) (permitCell i) 1
 unfolding numbered
 numbered-more s i = ap (numbered s) (add-one i)
 
 loop-again : tie.Need-loop-again Inv-loop μ-loop
 loop-again c =
     let turn = c .before .loop in (
-      ap (λ (l : List ℕ). set (set l (1 + turn .i) (257 * (turn .i + 1))) (permitCell (turn .i)) 1) (turn .inv .0) ∙ sym (numbered-more _ (turn .i)),
+      ap (λ (l : List ℕ). set (set l (1 + turn .i) (256 * (turn .i + 1) + (turn .i + 1))) (permitCell (turn .i)) 1) (turn .inv .0) ∙ sym (numbered-more _ (turn .i)),
       omega arith,
     )
 
@@ -46,6 +46,7 @@ number-spec =
     Inv-loop
     μ-loop
     loop-holds
+    (λ c. search needs)
     (λ c. search needs)
     (λ c. search needs)
     (λ c. search needs)

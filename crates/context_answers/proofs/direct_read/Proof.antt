@@ -1,5 +1,5 @@
 use mathlib.Core.Path.{refl}
-use borrow.Author.Tests.{le-ltb, lt-ltb, not-false, not-true}
+use borrow.Author.Tests.{le-ltb, lt-ltb}
 use Rattle.chain.specs.{isMember, tableOf}
 use Rattle.protocol.specs.Contexts.{directContext}
 use borrow.Author.Needs.{needs}
@@ -12,15 +12,11 @@ returns c = simp (← c .before .before .before .before .count .ensures .0, ← 
 
 returns-2 : tie.Need-returns-2
 unfolding directContext isMember tableOf
-returns-2 c = simp (← c .before .before .before .before .before .before .before .before .before .count .ensures .0, ← c .before .before .before .before .before .before .before .before .place .ensures, lt-ltb _ _ (c .before .before .before .before .before .before .before .if1 .left), ← c .before .before .before .before .before .before .member .ensures, ← c .before .before .before .before .load .ensures, ← c .before .before .before .is-context .ensures, not-true (c .before .before .before .is-context .result) (c .before .before .if2 .taken), c .drop-row2 .ensures .0, c .drop-row2 .ensures .1) (refl, refl)
+returns-2 c = simp (← c .before .before .before .before .before .before .before .before .before .count .ensures .0, ← c .before .before .before .before .before .before .before .before .place .ensures, lt-ltb _ _ (c .before .before .before .before .before .before .before .if1 .left), ← c .before .before .before .before .before .before .member .ensures, ← c .before .before .before .before .load .ensures, ← c .before .before .before .answers .ensures, c .before .before .if2 .taken, c .answer .ensures .0, c .answer .ensures .1) (refl, refl)
 
 returns-3 : tie.Need-returns-3
 unfolding directContext isMember tableOf
-returns-3 c = simp (← c .before .before .before .before .before .before .before .before .before .before .before .count .ensures .0, ← c .before .before .before .before .before .before .before .before .before .before .place .ensures, lt-ltb _ _ (c .before .before .before .before .before .before .before .before .before .if1 .left), ← c .before .before .before .before .before .before .before .before .member .ensures, ← c .before .before .before .before .before .before .load .ensures, ← c .before .before .before .before .before .is-context .ensures, not-false (c .before .before .before .before .before .is-context .result) (c .before .before .before .before .if2 .left), ← c .before .before .before .answers .ensures, c .before .before .if3 .taken, c .answer .ensures .0, c .answer .ensures .1) (refl, refl)
-
-returns-4 : tie.Need-returns-4
-unfolding directContext isMember tableOf
-returns-4 c = simp (← c .before .before .before .before .before .before .before .before .before .before .before .count .ensures .0, ← c .before .before .before .before .before .before .before .before .before .before .place .ensures, lt-ltb _ _ (c .before .before .before .before .before .before .before .before .before .if1 .left), ← c .before .before .before .before .before .before .before .before .member .ensures, ← c .before .before .before .before .before .before .load .ensures, ← c .before .before .before .before .before .is-context .ensures, not-false (c .before .before .before .before .before .is-context .result) (c .before .before .before .before .if2 .left), ← c .before .before .before .answers .ensures, c .before .before .if3 .left, ← c .before .tail-number .ensures, ← c .pass-on .ensures) (refl, refl)
+returns-3 c = simp (← c .before .before .before .before .before .before .before .before .before .count .ensures .0, ← c .before .before .before .before .before .before .before .before .place .ensures, lt-ltb _ _ (c .before .before .before .before .before .before .before .if1 .left), ← c .before .before .before .before .before .before .member .ensures, ← c .before .before .before .before .load .ensures, ← c .before .before .before .answers .ensures, c .before .before .if2 .left, ← c .before .read-replica-number .ensures, ← c .pass-on .ensures) (refl, refl)
 
 pub direct-read-spec : {M : Type 1} → statement M
 direct-read-spec =
@@ -37,7 +33,4 @@ direct-read-spec =
     returns-2
     (λ c κs. search needs)
     (λ c κs. search needs)
-    returns-3
-    (λ c κs. search needs)
-    (λ c κs. search needs)
-    returns-4)
+    returns-3)

@@ -11,11 +11,7 @@ returns c = simp (← c .drop-row .ensures .0, ← c .drop-row .ensures .1, not-
 
 returns-2 : tie.Need-returns-2
 unfolding contextReply
-returns-2 c = simp (← c .drop-row2 .ensures .0, ← c .drop-row2 .ensures .1, not-true (c .before .before .before .is-count .result) (c .before .before .if2 .taken), ← c .before .before .before .is-count .ensures, ← c .before .before .before .before .load .ensures, not-false (c .before .before .before .before .before .before .before .is-open .result) (c .before .before .before .before .before .before .if1 .left), ← c .before .before .before .before .before .before .before .is-open .ensures) (refl, refl)
-
-returns-3 : tie.Need-returns-3
-unfolding contextReply
-returns-3 c = simp (← c .take-out .ensures, ← c .before .free .ensures, ← c .before .before .before .close .ensures .1, not-false (c .before .before .before .before .before .before .is-count .result) (c .before .before .before .before .before .if2 .left), ← c .before .before .before .before .before .before .is-count .ensures, ← c .before .before .before .before .before .before .before .load .ensures, not-false (c .before .before .before .before .before .before .before .before .before .before .is-open .result) (c .before .before .before .before .before .before .before .before .before .if1 .left), ← c .before .before .before .before .before .before .before .before .before .before .is-open .ensures) (refl, refl)
+returns-2 c = simp (← c .take-out .ensures, ← c .before .free .ensures, ← c .before .before .before .close .ensures .1, ← c .before .before .before .before .before .load .ensures, not-false (c .before .before .before .before .before .before .before .before .is-open .result) (c .before .before .before .before .before .before .before .if1 .left), ← c .before .before .before .before .before .before .before .before .is-open .ensures) (refl, refl)
 
 pub finish-spec : {M : Type 1} → statement M
 finish-spec =
@@ -27,8 +23,5 @@ finish-spec =
     (λ c κs. search needs)
     (λ c κs. search needs)
     (λ c κs. search needs)
-    returns-2
     (λ c κs. search needs)
-    (λ c κs. search needs)
-    (λ c κs. search needs)
-    returns-3)
+    returns-2)

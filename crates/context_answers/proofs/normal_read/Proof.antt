@@ -1,26 +1,22 @@
 use mathlib.Core.Path.{refl}
-use borrow.Author.Tests.{eq-eqb, le-ltb, lt-ltb, ne-eqb, not-false, not-true}
-use Rattle.chain.specs.{isMember, isTail, tableOf}
+use borrow.Author.Tests.{le-ltb, lt-ltb, not-false, not-true}
+use Rattle.chain.specs.{isMember, isReadReplica, tableOf}
 use Rattle.protocol.specs.Contexts.{normalContext}
 use borrow.Author.Needs.{needs}
 use Rattle.context_answers.proofs.normal_read.Statement.{statement}
 use Rattle.context_answers.proofs.normal_read.Tie as tie
 
 returns : tie.Need-returns
-unfolding normalContext isMember isTail tableOf
+unfolding normalContext isMember isReadReplica tableOf
 returns c = simp (← c .before .before .before .before .count .ensures .0, ← c .before .before .before .place .ensures, le-ltb _ _ (c .before .before .if1 .taken), c .drop-row .ensures .0, c .drop-row .ensures .1) (refl, refl)
 
 returns-2 : tie.Need-returns-2
-unfolding normalContext isMember isTail tableOf
-returns-2 c = simp (← c .before .before .before .before .before .before .before .before .count .ensures .0, ← c .before .before .before .before .before .before .before .place .ensures, lt-ltb _ _ (c .before .before .before .before .before .before .if1 .left), ← c .before .before .before .before .load .ensures, ← c .before .before .before .is-context .ensures, not-true (c .before .before .before .is-context .result) (c .before .before .if2 .taken), c .drop-row2 .ensures .0, c .drop-row2 .ensures .1) (refl, refl)
+unfolding normalContext isMember isReadReplica tableOf
+returns-2 c = simp (← c .before .before .before .before .before .before .count .ensures .0, ← c .before .before .before .before .before .place .ensures, lt-ltb _ _ (c .before .before .before .before .if1 .left), ← c .before .before .before .is-read-place .ensures, not-true (c .before .before .before .is-read-place .result) (c .before .before .if2 .taken), ← c .before .read-replica-number .ensures, ← c .pass-on .ensures) (refl, refl)
 
 returns-3 : tie.Need-returns-3
-unfolding normalContext isMember isTail tableOf
-returns-3 c = simp (← c .before .before .before .before .before .before .before .before .before .count .ensures .0, ← c .before .before .before .before .before .before .before .before .place .ensures, lt-ltb _ _ (c .before .before .before .before .before .before .before .if1 .left), ← c .before .before .before .before .before .load .ensures, ← c .before .before .before .before .is-context .ensures, not-false (c .before .before .before .before .is-context .result) (c .before .before .before .if2 .left), ne-eqb _ _ (c .before .before .if3 .taken), ← c .before .tail-number .ensures, ← c .pass-on .ensures) (refl, refl)
-
-returns-4 : tie.Need-returns-4
-unfolding normalContext isMember isTail tableOf
-returns-4 c = simp (← c .before .before .before .before .before .before .before .before .before .before .count .ensures .0, ← c .before .before .before .before .before .before .before .before .before .place .ensures, lt-ltb _ _ (c .before .before .before .before .before .before .before .before .if1 .left), ← c .before .before .before .before .before .before .load .ensures, ← c .before .before .before .before .before .is-context .ensures, not-false (c .before .before .before .before .before .is-context .result) (c .before .before .before .before .if2 .left), eq-eqb _ _ (c .before .before .before .if3 .left), ← c .before .member .ensures, c .answer .ensures .0, c .answer .ensures .1) (refl, refl)
+unfolding normalContext isMember isReadReplica tableOf
+returns-3 c = simp (← c .before .before .before .before .before .before .before .count .ensures .0, ← c .before .before .before .before .before .before .place .ensures, lt-ltb _ _ (c .before .before .before .before .before .if1 .left), ← c .before .before .before .before .is-read-place .ensures, not-false (c .before .before .before .before .is-read-place .result) (c .before .before .before .if2 .left), ← c .before .member .ensures, c .answer .ensures .0, c .answer .ensures .1) (refl, refl)
 
 pub normal-read-spec : {M : Type 1} → statement M
 normal-read-spec =
@@ -34,10 +30,6 @@ normal-read-spec =
     (λ c κs. search needs)
     (λ c κs. search needs)
     returns-2
-    (λ c. search needs)
     (λ c κs. search needs)
     (λ c κs. search needs)
-    returns-3
-    (λ c κs. search needs)
-    (λ c κs. search needs)
-    returns-4)
+    returns-3)

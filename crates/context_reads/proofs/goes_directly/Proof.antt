@@ -1,5 +1,5 @@
 use borrow.Author.Tests.{not-false, not-true}
-use Rattle.protocol.specs.Contexts.{goesDirectly}
+use Rattle.protocol.specs.Reads.{goesDirectly}
 use borrow.Author.Needs.{needs}
 use Rattle.context_reads.proofs.goes_directly.Statement.{statement}
 use Rattle.context_reads.proofs.goes_directly.Tie as tie

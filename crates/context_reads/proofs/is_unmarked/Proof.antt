@@ -1,4 +1,4 @@
-use Rattle.protocol.specs.Contexts.{isUnmarked}
+use Rattle.protocol.specs.Reads.{isUnmarked}
 use borrow.Author.Needs.{needs}
 use Rattle.context_reads.proofs.is_unmarked.Statement.{statement}
 use Rattle.context_reads.proofs.is_unmarked.Tie as tie

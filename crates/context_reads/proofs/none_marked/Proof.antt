@@ -1,43 +1,34 @@
-use mathlib.Core.Path.{_≡_, sym, ap, _∙_}
-use mathlib.Core.Bool.{true}
-use Prim.Native.Nat.{ℕ, _-_, _≤_, _<_}
-use native.Mathlib.Omega.{arith}
-use borrow.Author.Count.{below-more, below-none}
-use borrow.Author.Tests.{not-true, not-false}
-use Rattle.contexts.specs.{placeOf, sizeOf}
-use Rattle.contexts.proofs.Places.{numbers-pass, numbers-fail}
-use Rattle.protocol.specs.Contexts.{isUnmarked}
+use Prim.Native.Nat.{_-_}
 use borrow.Author.Needs.{needs}
+use Rattle.lists.proofs.Passing.{Passing, none-yet, number-passes, number-fails, all-passed}
+use Rattle.contexts.specs.{placeOf, sizeOf, numbersOf}
+use Rattle.protocol.specs.Reads.{isUnmarked}
 use Rattle.context_reads.proofs.none_marked.Statement.{statement}
 use Rattle.context_reads.proofs.none_marked.Tie as tie
 
 abbrev Inv-loop : tie.InvT-loop
-Inv-loop switch v n i₀ i = (i ≤ n) × (n ≡ sizeOf v) × (n ≤ 8) × ((k : ℕ) → k < i → isUnmarked switch (placeOf v k) ≡ true)
+Inv-loop switch v n i₀ i = Passing (isUnmarked switch) (placeOf v) (sizeOf v) n i
 
 abbrev μ-loop : tie.MeasureT-loop
 μ-loop switch v n i₀ i = n - i
 
 loop-holds : tie.Need-loop-holds Inv-loop μ-loop
-loop-holds c = (omega arith, c .size .ensures .0, c .size .ensures .1, below-none _)
+loop-holds c = none-yet (c .size .ensures)
 
 returns : tie.Need-returns Inv-loop μ-loop
+unfolding numbersOf
 returns c =
-    let turn = c .before .before .before .before .loop in
-    sym (numbers-fail _ _ (turn .i) (omega arith)
-    (ap (isUnmarked _) (sym (c .before .before .place .ensures)) ∙ sym (c .before .is-unmarked .ensures) ∙ not-true (c .before .is-unmarked .result) (c .if1 .taken)))
+    let turn = c .before .before .before in
+    number-fails (turn .before .loop .inv) (turn .loop-test .taken) (c .before .before .place .ensures) (c .before .is-unmarked .ensures) (c .if1 .taken)
 
 loop-again : tie.Need-loop-again Inv-loop μ-loop
 loop-again c =
-    let turn = c .before .before .before .before .loop in (
-      omega arith,
-      turn .inv .1,
-      turn .inv .2,
-      below-more _ _ (turn .inv .3)
-          (ap (isUnmarked _) (sym (c .before .before .place .ensures)) ∙ sym (c .before .is-unmarked .ensures) ∙ not-false (c .before .is-unmarked .result) (c .if1 .left)),
-    )
+    let turn = c .before .before .before in
+    number-passes (turn .before .loop .inv) (turn .loop-test .taken) (c .before .before .place .ensures) (c .before .is-unmarked .ensures) (c .if1 .left)
 
 returns-2 : tie.Need-returns-2 Inv-loop μ-loop
-returns-2 c = let done = c .before .loop in sym (numbers-pass _ _ (λ k b. done .inv .3 k (omega (arith, done .inv .1))))
+unfolding numbersOf
+returns-2 c = all-passed (c .before .loop .inv) (c .loop-test .left)
 
 pub none-marked-spec : {M : Type 1} → statement M
 none-marked-spec =

@@ -7,15 +7,11 @@ use Rattle.context_reads.proofs.switch_read.Tie as tie
 
 returns : tie.Need-returns
 unfolding contextRead
-returns c = simp (← c .drop-row .ensures .0, ← c .drop-row .ensures .1, not-true (c .before .before .before .is-context .result) (c .before .before .if1 .taken), ← c .before .before .before .is-context .ensures, ← c .before .before .before .before .load .ensures) (refl, refl)
+returns c = simp (← c .pass-on .ensures, ← c .before .read-replica-number .ensures, not-true (c .before .before .before .goes-directly .result) (c .before .before .if1 .taken), ← c .before .before .before .goes-directly .ensures, ← c .before .before .before .before .load .ensures) (refl, refl)
 
 returns-2 : tie.Need-returns-2
 unfolding contextRead
-returns-2 c = simp (← c .pass-on .ensures, ← c .before .tail-number .ensures, not-true (c .before .before .before .goes-directly .result) (c .before .before .if2 .taken), ← c .before .before .before .goes-directly .ensures, not-false (c .before .before .before .before .before .is-context .result) (c .before .before .before .before .if1 .left), ← c .before .before .before .before .before .is-context .ensures, ← c .before .before .before .before .before .before .load .ensures) (refl, refl)
-
-returns-3 : tie.Need-returns-3
-unfolding contextRead
-returns-3 c = simp (← c .pass-on2 .ensures, ← c .before .committed .ensures, ← c .before .before .number .ensures, ← c .before .before .before .choose .ensures, not-false (c .before .before .before .before .before .goes-directly .result) (c .before .before .before .before .if2 .left), ← c .before .before .before .before .before .goes-directly .ensures, not-false (c .before .before .before .before .before .before .before .is-context .result) (c .before .before .before .before .before .before .if1 .left), ← c .before .before .before .before .before .before .before .is-context .ensures, ← c .before .before .before .before .before .before .before .before .load .ensures) (refl, refl)
+returns-2 c = simp (← c .pass-on2 .ensures, ← c .before .committed .ensures, ← c .before .before .number .ensures, ← c .before .before .before .choose .ensures, not-false (c .before .before .before .before .before .goes-directly .result) (c .before .before .before .before .if1 .left), ← c .before .before .before .before .before .goes-directly .ensures, ← c .before .before .before .before .before .before .load .ensures) (refl, refl)
 
 pub switch-read-spec : {M : Type 1} → statement M
 switch-read-spec =
@@ -24,13 +20,10 @@ switch-read-spec =
     (λ c κs. search needs)
     (λ c κs. search needs)
     (λ c κs. search needs)
+    (λ c κs. search needs)
     returns
     (λ c κs. search needs)
     (λ c κs. search needs)
     (λ c κs. search needs)
-    returns-2
     (λ c κs. search needs)
-    (λ c κs. search needs)
-    (λ c κs. search needs)
-    (λ c κs. search needs)
-    returns-3)
+    returns-2)

@@ -1,43 +1,39 @@
-use mathlib.Core.Path.{_≡_, sym, ap, _∙_}
-use mathlib.Core.Bool.{true}
-use Prim.Native.Nat.{ℕ, _-_, _≤_, _<_}
+use mathlib.Core.Path.{sym, ap, _∙_}
+use Prim.Native.Nat.{_-_}
 use native.Mathlib.Omega.{arith}
-use borrow.Author.Count.{below-more, below-none}
-use Rattle.lists.specs.{indexOf}
-use Rattle.contexts.specs.{numbersOf, sizeOf, standsFirst}
-use Rattle.contexts.proofs.Places.{stands-first, stands-later, different-pass, different-fail}
 use borrow.Author.Needs.{needs}
+use Rattle.lists.specs.{indexOf}
+use Rattle.lists.proofs.Passing.{Passing, none-yet, one-passes, one-fails, all-passed}
+use Rattle.contexts.specs.{numbersOf, sizeOf, standsFirst, areDifferent}
+use Rattle.contexts.proofs.Places.{stands-first, stands-later}
 use Rattle.contexts.proofs.are_different.Statement.{statement}
 use Rattle.contexts.proofs.are_different.Tie as tie
 
 abbrev Inv-loop : tie.InvT-loop
-Inv-loop v n i₀ i = (i ≤ n) × (n ≡ sizeOf v) × (n ≤ 8) × ((k : ℕ) → k < i → standsFirst (numbersOf v) k ≡ true)
+Inv-loop v n i₀ i = Passing (standsFirst (numbersOf v)) (λ k. k) (sizeOf v) n i
 
 abbrev μ-loop : tie.MeasureT-loop
 μ-loop v n i₀ i = n - i
 
 loop-holds : tie.Need-loop-holds Inv-loop μ-loop
-loop-holds c = (omega arith, c .size .ensures .0, c .size .ensures .1, below-none _)
+loop-holds c = none-yet (c .size .ensures)
 
 returns : tie.Need-returns Inv-loop μ-loop
+unfolding areDifferent
 returns c =
-    let turn = c .before .before .before .before .loop in
-    let inside : turn .i < sizeOf (c .before .before .before .before .before .before .args .v) = omega (arith, turn .inv .1) in
-    sym (different-fail _ (turn .i) inside
-    (stands-later _ (turn .i) inside (λ e. c .if1 .taken (c .before .find .ensures ∙ ap (indexOf _) (c .before .before .place .ensures) ∙ e))))
+    let turn = c .before .before .before in
+    one-fails (turn .before .loop .inv) (turn .loop-test .taken) (stands-later _ _ (omega (arith, turn .before .loop .inv .count))
+    (λ e. c .if1 .taken (c .before .find .ensures ∙ ap (indexOf _) (c .before .before .place .ensures) ∙ e)))
 
 loop-again : tie.Need-loop-again Inv-loop μ-loop
 loop-again c =
-    let turn = c .before .before .before .before .loop in (
-      omega arith,
-      turn .inv .1,
-      turn .inv .2,
-      below-more _ _ (turn .inv .3)
-          (stands-first _ (turn .i) (omega arith) (sym (ap (indexOf _) (c .before .before .place .ensures)) ∙ sym (c .before .find .ensures) ∙ c .if1 .left)),
-    )
+    let turn = c .before .before .before in
+    one-passes (turn .before .loop .inv) (turn .loop-test .taken) (stands-first _ _ (omega (arith, turn .before .loop .inv .count))
+    (sym (ap (indexOf _) (c .before .before .place .ensures)) ∙ sym (c .before .find .ensures) ∙ c .if1 .left))
 
 returns-2 : tie.Need-returns-2 Inv-loop μ-loop
-returns-2 c = let done = c .before .loop in sym (different-pass _ (λ k b. done .inv .3 k (omega (arith, done .inv .1))))
+unfolding areDifferent
+returns-2 c = all-passed (c .before .loop .inv) (c .loop-test .left)
 
 pub are-different-spec : {M : Type 1} → statement M
 are-different-spec =

@@ -1,42 +1,33 @@
-use mathlib.Core.Path.{_≡_, sym, ap, _∙_}
-use mathlib.Core.Bool.{true}
-use Prim.Native.Nat.{ℕ, _-_, _≤_, _<_}
-use native.Mathlib.Omega.{arith}
-use borrow.Author.Count.{below-more, below-none}
-use borrow.Author.Tests.{not-true, not-false}
-use Rattle.contexts.specs.{placeOf, sizeOf, isObject}
-use Rattle.contexts.proofs.Places.{objects-pass, objects-fail}
+use Prim.Native.Nat.{_-_}
 use borrow.Author.Needs.{needs}
+use Rattle.lists.proofs.Passing.{Passing, none-yet, number-passes, number-fails, all-passed}
+use Rattle.contexts.specs.{placeOf, sizeOf, numbersOf, isObject, areObjects}
 use Rattle.contexts.proofs.are_objects.Statement.{statement}
 use Rattle.contexts.proofs.are_objects.Tie as tie
 
 abbrev Inv-loop : tie.InvT-loop
-Inv-loop v n i₀ i = (i ≤ n) × (n ≡ sizeOf v) × (n ≤ 8) × ((k : ℕ) → k < i → isObject (placeOf v k) ≡ true)
+Inv-loop v n i₀ i = Passing isObject (placeOf v) (sizeOf v) n i
 
 abbrev μ-loop : tie.MeasureT-loop
 μ-loop v n i₀ i = n - i
 
 loop-holds : tie.Need-loop-holds Inv-loop μ-loop
-loop-holds c = (omega arith, c .size .ensures .0, c .size .ensures .1, below-none _)
+loop-holds c = none-yet (c .size .ensures)
 
 returns : tie.Need-returns Inv-loop μ-loop
+unfolding areObjects numbersOf
 returns c =
-    let turn = c .before .before .before .before .loop in
-    sym (objects-fail _ (turn .i) (omega arith)
-    (ap isObject (sym (c .before .before .place .ensures)) ∙ sym (c .before .is-object .ensures) ∙ not-true (c .before .is-object .result) (c .if1 .taken)))
+    let turn = c .before .before .before in
+    number-fails (turn .before .loop .inv) (turn .loop-test .taken) (c .before .before .place .ensures) (c .before .is-object .ensures) (c .if1 .taken)
 
 loop-again : tie.Need-loop-again Inv-loop μ-loop
 loop-again c =
-    let turn = c .before .before .before .before .loop in (
-      omega arith,
-      turn .inv .1,
-      turn .inv .2,
-      below-more _ _ (turn .inv .3)
-          (ap isObject (sym (c .before .before .place .ensures)) ∙ sym (c .before .is-object .ensures) ∙ not-false (c .before .is-object .result) (c .if1 .left)),
-    )
+    let turn = c .before .before .before in
+    number-passes (turn .before .loop .inv) (turn .loop-test .taken) (c .before .before .place .ensures) (c .before .is-object .ensures) (c .if1 .left)
 
 returns-2 : tie.Need-returns-2 Inv-loop μ-loop
-returns-2 c = let done = c .before .loop in sym (objects-pass _ (λ k b. done .inv .3 k (omega (arith, done .inv .1))))
+unfolding areObjects numbersOf
+returns-2 c = all-passed (c .before .loop .inv) (c .loop-test .left)
 
 pub are-objects-spec : {M : Type 1} → statement M
 are-objects-spec =

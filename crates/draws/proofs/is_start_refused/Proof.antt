@@ -1,5 +1,5 @@
 use borrow.Author.Tests.{eq-eqb, ne-eqb}
-use Rattle.protocol.specs.Steps.{startRefused}
+use Rattle.protocol.specs.Starts.{startRefused}
 use Rattle.draws.proofs.is_start_refused.Statement.{statement}
 use Rattle.draws.proofs.is_start_refused.Tie as tie
 

@@ -7,8 +7,9 @@ use borrow.Author.Tests.{lt-ltb, le-ltb, le-leb, lt-leb}
 use denote.Ref.{now}
 use mir.Syntax.{w64}
 use mir.ValLaws.{toZ-pos}
+use Rattle.protocol.proofs.Refusals.{start-accepted}
 use Rattle.draws.specs.{bytesDrawn, drawRefusal, drawAnswer, drawBuffer}
-use Rattle.draws.proofs.Drawn.{bytes-size, start-most}
+use Rattle.draws.proofs.Drawn.{bytes-size}
 use borrow.Author.Needs.{needs}
 use Rattle.draws.proofs.run.Statement.{statement}
 use Rattle.draws.proofs.run.Tie as tie
@@ -40,7 +41,7 @@ cast-put : tie.Need-cast-put
 cast-put c =
     let s = c .before .before .before .before .before .before .before .args in
     let stands = sym (c .before .before .before .before .before .is-start-refused .ensures) ∙ c .before .before .before .before .if1 .left in
-    let few : s .n ≤ 8 = start-most (s .n) stands in
+    let few : s .n ≤ 8 = start-accepted (s .n) .0 stands .1 in
     search (needs, few)
 
 put-requires : tie.Need-put-requires

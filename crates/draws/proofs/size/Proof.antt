@@ -5,7 +5,7 @@ use native.Mathlib.Omega.{arith}
 use lib.ListN.{length}
 use Rattle.protocol.specs.declared.Step.{Step}
 use Rattle.records.specs.Records.{recordOf}
-use Rattle.draws.specs.{stepDrawn, stepsDrawn, recordsOf, mostSteps}
+use Rattle.draws.specs.{stepsDrawn, recordsOf, mostSteps}
 use Rattle.draws.proofs.Drawn.{steps-longer, steps-none, steps-short}
 use borrow.Author.Needs.{needs}
 use Rattle.draws.proofs.size.Statement.{statement}

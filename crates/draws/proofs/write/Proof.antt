@@ -1,13 +1,11 @@
 -- The loop's invariant: with the records of the steps that are left, the buffer would hold those of all.
 use mathlib.Core.Path.{_≡_, refl, sym, ap, _∙_}
-use mathlib.Core.List.{List, append-nil}
-use Prim.Native.Nat.{ℕ, _+_, _-_, _≤_}
-use native.Mathlib.Nat.{add-zero}
+use mathlib.Core.List.{List}
+use Prim.Native.Nat.{ℕ, _+_, _≤_}
 use native.Mathlib.Omega.{arith}
-use lib.ListN.{length, take-append-drop}
-use denote.Ref.{now}
+use lib.ListN.{length}
 use Rattle.lines.specs.Text.{pasted}
-use Rattle.draws.specs.{stepsDrawn, recordsOf, mostSteps}
+use Rattle.draws.specs.{stepsDrawn, recordsOf}
 use Rattle.draws.proofs.Drawn.{steps-none, steps-short, turn-written, turn-size, turn-length, pasted-none}
 use borrow.Author.Needs.{needs}
 use Rattle.draws.proofs.write.Statement.{statement}

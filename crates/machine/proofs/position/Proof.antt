@@ -1,4 +1,5 @@
 use Rattle.protocol.specs.Steps.{positionOf}
+use Rattle.protocol.proofs.Variants.{no-position}
 use borrow.Author.Needs.{needs}
 use Rattle.machine.proofs.position.Statement.{statement}
 use Rattle.machine.proofs.position.Tie as tie
@@ -16,48 +17,7 @@ unfolding positionOf
 returns-3 c = rw (c .before .x3 .given .1)
 
 returns-4 : tie.Need-returns-4
-unfolding positionOf
-returns-4 c = rw (c .before .x4 .given .1)
-
-returns-5 : tie.Need-returns-5
-unfolding positionOf
-returns-5 c = rw (c .before .x5 .given .1)
-
-returns-6 : tie.Need-returns-6
-unfolding positionOf
-returns-6 c = rw (c .before .x6 .given .1)
-
-returns-7 : tie.Need-returns-7
-unfolding positionOf
-returns-7 c = rw (c .before .x7 .given .1)
-
-returns-8 : tie.Need-returns-8
-unfolding positionOf
-returns-8 c = rw (c .before .x8 .given .1)
-
-returns-9 : tie.Need-returns-9
-unfolding positionOf
-returns-9 c = rw (c .before .x9 .given .1)
-
-returns-10 : tie.Need-returns-10
-unfolding positionOf
-returns-10 c = rw (c .before .x10 .given .1)
-
-returns-11 : tie.Need-returns-11
-unfolding positionOf
-returns-11 c = rw (c .before .x11 .given .1)
-
-returns-12 : tie.Need-returns-12
-unfolding positionOf
-returns-12 c = rw (c .before .x12 .given .1)
-
-returns-13 : tie.Need-returns-13
-unfolding positionOf
-returns-13 c = rw (c .enum-told .given .1)
-
-returns-14 : tie.Need-returns-14
-unfolding positionOf
-returns-14 c = rw (c .enum-told2 .given .1)
+returns-4 c = no-position (c .before .args .x) (c .match .keys4)
 
 pub position-spec : {M : Type 1} → statement M
 position-spec =
@@ -69,28 +29,7 @@ position-spec =
     (λ c. search needs)
     (λ c. search needs)
     (λ c. search needs)
-    (λ c. search needs)
-    (λ c. search needs)
-    (λ c. search needs)
-    (λ c. search needs)
-    (λ c. search needs)
-    (λ c. search needs)
-    (λ c. search needs)
-    (λ c. search needs)
-    (λ c. search needs)
-    (λ c. search needs)
-    (λ c. search needs)
     returns
     returns-2
     returns-3
-    returns-4
-    returns-5
-    returns-6
-    returns-7
-    returns-8
-    returns-9
-    returns-10
-    returns-11
-    returns-12
-    returns-13
-    returns-14)
+    returns-4)

@@ -1,6 +1,5 @@
 use borrow.Author.Tests.{eq-eqb, ne-eqb}
 use Rattle.numbered_records.specs.{hasNumbers}
-use borrow.Author.Needs.{needs}
 use Rattle.numbered_records.proofs.has_numbers.Statement.{statement}
 use Rattle.numbered_records.proofs.has_numbers.Tie as tie
 

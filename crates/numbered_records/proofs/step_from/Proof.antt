@@ -5,13 +5,27 @@ use borrow.Author.Needs.{needs}
 use Rattle.numbered_records.proofs.step_from.Statement.{statement}
 use Rattle.numbered_records.proofs.step_from.Tie as tie
 
--- the last kind is what the others leave
-give-up : tie.Need-returns-13
+-- no kind is left
+no-step : tie.Need-returns-14
 unfolding stepFrom
-give-up c =
+no-step c =
     let k : ℕ = c .before .args .kind in
     let others = c .match .rest in
-    simp (ne-eqb k 13 (others .1), ne-eqb k 12 (others .0 .1), ne-eqb k 9 (others .0 .0 .1), ne-eqb k 8 (others .0 .0 .0 .1), ne-eqb k 7 (others .0 .0 .0 .0 .1), ne-eqb k 6 (others .0 .0 .0 .0 .0 .1), ne-eqb k 5 (others .0 .0 .0 .0 .0 .0 .1), ne-eqb k 4 (others .0 .0 .0 .0 .0 .0 .0 .1), ne-eqb k 3 (others .0 .0 .0 .0 .0 .0 .0 .0 .1), ne-eqb k 2 (others .0 .0 .0 .0 .0 .0 .0 .0 .0 .1), ne-eqb k 1 (others .0 .0 .0 .0 .0 .0 .0 .0 .0 .0 .1), ne-eqb k 0 (others .0 .0 .0 .0 .0 .0 .0 .0 .0 .0 .0 .1))
+    simp (
+      ne-eqb k 13 (others .1),
+      ne-eqb k 12 (others .0 .1),
+      ne-eqb k 10 (others .0 .0 .1),
+      ne-eqb k 9 (others .0 .0 .0 .1),
+      ne-eqb k 8 (others .0 .0 .0 .0 .1),
+      ne-eqb k 7 (others .0 .0 .0 .0 .0 .1),
+      ne-eqb k 6 (others .0 .0 .0 .0 .0 .0 .1),
+      ne-eqb k 5 (others .0 .0 .0 .0 .0 .0 .0 .1),
+      ne-eqb k 4 (others .0 .0 .0 .0 .0 .0 .0 .0 .1),
+      ne-eqb k 3 (others .0 .0 .0 .0 .0 .0 .0 .0 .0 .1),
+      ne-eqb k 2 (others .0 .0 .0 .0 .0 .0 .0 .0 .0 .0 .1),
+      ne-eqb k 1 (others .0 .0 .0 .0 .0 .0 .0 .0 .0 .0 .0 .1),
+      ne-eqb k 0 (others .0 .0 .0 .0 .0 .0 .0 .0 .0 .0 .0 .0 .1),
+    )
 
 pub step-from-spec : {M : Type 1} → statement M
 unfolding stepFrom
@@ -41,4 +55,5 @@ step-from-spec =
     (λ c. simp (c .match .keys10))
     (λ c. simp (c .match .keys11))
     (λ c. simp (c .match .keys12))
-    give-up)
+    (λ c. simp (c .match .keys13))
+    no-step)

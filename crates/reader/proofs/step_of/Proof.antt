@@ -5,27 +5,27 @@ use borrow.Author.Needs.{needs}
 use Rattle.reader.proofs.step_of.Statement.{statement}
 use Rattle.reader.proofs.step_of.Tie as tie
 
--- the last kind is what the others leave
-begin-context : tie.Need-returns-14
+-- no kind is left
+no-step : tie.Need-returns-15
 unfolding stepOf
-begin-context c =
-    let k : ℕ = c .before .before .before .args .kind in
-    let others = c .before .match .rest in
+no-step c =
+    let k : ℕ = c .before .before .args .kind in
+    let others = c .match .rest in
     simp (
       ne-eqb k 13 (others .1),
       ne-eqb k 12 (others .0 .1),
-      ne-eqb k 10 (others .0 .0 .1),
-      ne-eqb k 9 (others .0 .0 .0 .1),
-      ne-eqb k 8 (others .0 .0 .0 .0 .1),
-      ne-eqb k 7 (others .0 .0 .0 .0 .0 .1),
-      ne-eqb k 6 (others .0 .0 .0 .0 .0 .0 .1),
-      ne-eqb k 5 (others .0 .0 .0 .0 .0 .0 .0 .1),
-      ne-eqb k 4 (others .0 .0 .0 .0 .0 .0 .0 .0 .1),
-      ne-eqb k 3 (others .0 .0 .0 .0 .0 .0 .0 .0 .0 .1),
-      ne-eqb k 2 (others .0 .0 .0 .0 .0 .0 .0 .0 .0 .0 .1),
-      ne-eqb k 1 (others .0 .0 .0 .0 .0 .0 .0 .0 .0 .0 .0 .1),
-      ne-eqb k 0 (others .0 .0 .0 .0 .0 .0 .0 .0 .0 .0 .0 .0 .1),
-      ← c .objects-in .ensures,
+      ne-eqb k 11 (others .0 .0 .1),
+      ne-eqb k 10 (others .0 .0 .0 .1),
+      ne-eqb k 9 (others .0 .0 .0 .0 .1),
+      ne-eqb k 8 (others .0 .0 .0 .0 .0 .1),
+      ne-eqb k 7 (others .0 .0 .0 .0 .0 .0 .1),
+      ne-eqb k 6 (others .0 .0 .0 .0 .0 .0 .0 .1),
+      ne-eqb k 5 (others .0 .0 .0 .0 .0 .0 .0 .0 .1),
+      ne-eqb k 4 (others .0 .0 .0 .0 .0 .0 .0 .0 .0 .1),
+      ne-eqb k 3 (others .0 .0 .0 .0 .0 .0 .0 .0 .0 .0 .1),
+      ne-eqb k 2 (others .0 .0 .0 .0 .0 .0 .0 .0 .0 .0 .0 .1),
+      ne-eqb k 1 (others .0 .0 .0 .0 .0 .0 .0 .0 .0 .0 .0 .0 .1),
+      ne-eqb k 0 (others .0 .0 .0 .0 .0 .0 .0 .0 .0 .0 .0 .0 .0 .1),
     )
 
 pub step-of-spec : {M : Type 1} → statement M
@@ -58,6 +58,7 @@ step-of-spec =
     (λ c. simp (c .before .match .keys9, ← c .byte-at4 .ensures))
     (λ c. simp (c .before .match .keys10, ← c .byte-at5 .ensures))
     (λ c. simp (c .before .match .keys11, ← c .operation-in .ensures))
-    (λ c. simp (c .match .keys12))
+    (λ c. simp (c .before .match .keys12, ← c .objects-in .ensures))
     (λ c. simp (c .match .keys13))
-    begin-context)
+    (λ c. simp (c .match .keys14))
+    no-step)

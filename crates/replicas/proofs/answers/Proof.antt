@@ -1,3 +1,4 @@
+use Rattle.lists.proofs.AllOf.{all-one}
 use borrow.Author.Tests.{eq-eqb, ne-eqb}
 use Rattle.replicas.specs.Replicas.{answersDirect}
 use borrow.Author.Needs.{needs}
@@ -10,13 +11,7 @@ returns c = simp (← c .before .permitted .ensures, ne-eqb _ _ (c .if1 .taken))
 
 returns-2 : tie.Need-returns-2
 unfolding answersDirect
-returns-2 c = simp (← c .before .before .before .before .permitted .ensures, eq-eqb _ _ (c .before .before .before .if1 .left), ← c .before .before .read-stamp .ensures, ← c .before .above .ensures, c .if2 .taken)
-
-returns-3 : tie.Need-returns-3
-unfolding answersDirect
-returns-3 c = simp (← c .before .before .before .before .permitted .ensures, eq-eqb _ _ (c .before .before .before .if1 .left), ← c .before .before .read-stamp .ensures, ← c .before .above .ensures, c .if2 .left)
+returns-2 c = simp (← c .before .before .permitted .ensures, eq-eqb _ _ (c .before .if1 .left), all-one, c .is-not-above .ensures)
 
 pub answers-spec : {M : Type 1} → statement M
-answers-spec =
-    tie.close
-    (tie.spec (λ c κs. search needs) returns (λ c κs. search needs) (λ c κs. search needs) returns-2 returns-3)
+answers-spec = tie.close (tie.spec (λ c κs. search needs) returns (λ c κs. search needs) returns-2)

@@ -1,11 +1,10 @@
 -- The loop's invariant: what the passes that are left leave is what all leave.
 use mathlib.Core.Path.{_≡_, refl, sym, ap, _∙_}
-use mathlib.Core.List.{List}
-use Prim.Native.Nat.{ℕ, _+_, _-_, _≤_, _<_}
+use Prim.Native.Nat.{_-_}
 use native.Mathlib.Omega.{arith}
 use lib.ListN.{length}
 use denote.Ref.{now}
-use Rattle.shortening.specs.Shortening.{passed, rounds, mostRecords}
+use Rattle.shortening.specs.Shortening.{rounds, mostRecords}
 use Rattle.shortening.specs.Contracts.{Trying}
 use Rattle.shortening.proofs.Passes.{passed-length, trying-kept, rounds-stop, rounds-more, rounds-none}
 use borrow.Author.Needs.{needs}

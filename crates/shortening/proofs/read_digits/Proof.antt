@@ -1,6 +1,4 @@
 use mathlib.Core.Path.{sym, _∙_}
-use Prim.Native.Nat.{_-_, _*_, _≤_, _<_}
-use native.Mathlib.Omega.{arith}
 use borrow.Author.Tests.{not-true, not-false}
 use Rattle.shortening.specs.Shortening.{digitsRead}
 use Rattle.shortening.proofs.Records.{digit-bounds}

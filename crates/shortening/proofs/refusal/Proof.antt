@@ -1,12 +1,12 @@
-use mathlib.Core.Path.{_≡_, sym, ap, _∙_}
-use mathlib.Core.List.{List}
-use Prim.Native.Nat.{ℕ, _≤_}
+use mathlib.Core.Path.{ap, _∙_}
+use Prim.Native.Nat.{_≤_}
 use native.Mathlib.Omega.{arith}
 use lib.ListN.{length, take}
 use denote.Ref.{now}
-use Rattle.runs.specs.Runs.{printed, linesOf, holding}
+use Rattle.runs.specs.Runs.{printed}
 use Rattle.shortening.specs.Shortening.{refusalRead}
-use Rattle.shortening.proofs.Printing.{whole-output, whole-length, output-room}
+use Rattle.runs.proofs.Whole.{whole-output, whole-length}
+use Rattle.shortening.proofs.Printing.{output-room}
 use borrow.Author.Needs.{needs}
 use Rattle.shortening.proofs.refusal.Statement.{statement}
 use Rattle.shortening.proofs.refusal.Tie as tie

@@ -1,9 +1,7 @@
-use mathlib.Core.Path.{_≡_, sym, ap, _∙_}
-use Prim.Native.Nat.{_+_, _≤_}
+use mathlib.Core.Path.{sym, ap, _∙_}
 use native.Mathlib.Omega.{arith}
 use borrow.Author.Tests.{lt-ltb, le-ltb}
 use denote.Ref.{now}
-use Rattle.records.specs.Records.{nextAt}
 use Rattle.shortening.specs.Shortening.{isRecord, met}
 use Rattle.shortening.proofs.Records.{record-lies, scanned-all}
 use borrow.Author.Needs.{needs}
@@ -16,7 +14,7 @@ returns c = simp (lt-ltb _ _ (c .if1 .taken))
 
 returns-2 : tie.Need-returns-2
 unfolding met
-returns-2 c = simp (le-ltb _ _ (c .before .before .before .before .before .before .before .if1 .left), ← c .before .before .before .before .before .before .next-at .ensures, c .before .before .before .before .x .given .1, ← c .before .before .replicas-of .ensures, ← c .before .start-refused .ensures, c .if2 .taken)
+returns-2 c = simp (le-ltb _ _ (c .before .before .before .before .before .before .before .if1 .left), ← c .before .before .before .before .before .before .next-at .ensures, c .before .before .before .before .x .given .1, ← c .before .before .setup-of .ensures, ← c .before .is-refused .ensures, c .if2 .taken)
 
 size-at-requires : tie.Need-size-at-requires
 size-at-requires c κs =
@@ -38,7 +36,7 @@ unfolding met
 returns-3 c =
     let l = now (c .before .before .before .before .before .before .before .before .before .before .before .args .input) in
     scanned-all (c .scan-from .result) l
-    (simp (le-ltb _ _ (c .before .before .before .before .before .before .before .before .before .if1 .left), ← c .before .before .before .before .before .before .before .before .next-at .ensures, c .before .before .before .before .before .before .x .given .1, ← c .before .before .before .before .replicas-of .ensures, ← c .before .before .before .start-refused .ensures, c .before .before .if2 .left))
+    (simp (le-ltb _ _ (c .before .before .before .before .before .before .before .before .before .if1 .left), ← c .before .before .before .before .before .before .before .before .next-at .ensures, c .before .before .before .before .before .before .x .given .1, ← c .before .before .before .before .setup-of .ensures, ← c .before .before .before .is-refused .ensures, c .before .before .if2 .left))
     (c .scan-from .ensures)
 
 returns-4 : tie.Need-returns-4

@@ -1,12 +1,12 @@
 -- The loop's invariant: so many records were read, they lie within the input, and what is met behind them is what is met behind the start.
-use mathlib.Core.Path.{_≡_, refl, sym, ap, _∙_}
+use mathlib.Core.Path.{_≡_, sym, ap, _∙_}
 use Prim.Native.Nat.{ℕ, _+_, _-_, _*_, _≤_}
 use native.Mathlib.Omega.{arith}
 use lib.ListN.{length}
 use borrow.Author.Tests.{not-true, not-false}
 use denote.Ref.{now}
 use Rattle.shortening.specs.Shortening.{sizeAt, placeOf, recordsFrom, metFrom, recordsIn}
-use Rattle.shortening.specs.Contracts.{Within, Sound}
+use Rattle.shortening.specs.Contracts.{Within}
 use Rattle.shortening.proofs.Records.{record-lies, met-record, counted-record, met-fault, met-end, counted-end, place-next, place-one, within-one, within-more, size-least}
 use borrow.Author.Needs.{needs}
 use Rattle.shortening.proofs.scan_from.Statement.{statement}

@@ -1,5 +1,3 @@
-use mathlib.Core.Path.{refl}
-use native.Mathlib.Omega.{arith}
 use Rattle.records.specs.Records.{twoAt}
 use Rattle.shortening.specs.Shortening.{sizeAt}
 use borrow.Author.Needs.{needs}

@@ -1,8 +1,6 @@
-use mathlib.Core.Path.{_≡_, sym, ap, _∙_}
-use Prim.Native.Nat.{_≤_}
+use mathlib.Core.Path.{sym, ap, _∙_}
 use native.Mathlib.Omega.{arith}
 use lib.ListN.{length}
-use denote.Ref.{now}
 use Rattle.shortening.specs.Shortening.{refusalOf}
 use borrow.Author.Needs.{needs}
 use Rattle.shortening.proofs.trial.Statement.{statement}

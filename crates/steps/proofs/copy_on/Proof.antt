@@ -1,5 +1,5 @@
 use mathlib.Core.Path.{refl}
-use borrow.Author.Tests.{le-leb, lt-leb, not-false, not-true}
+use borrow.Author.Tests.{not-false, not-true}
 use Rattle.protocol.specs.Steps.{copyingOn}
 use borrow.Author.Needs.{needs}
 use Rattle.steps.proofs.copy_on.Statement.{statement}
@@ -11,11 +11,7 @@ returns c = simp (← c .before .before .is-joining .ensures, not-true (c .befor
 
 returns-2 : tie.Need-returns-2
 unfolding copyingOn
-returns-2 c = simp (← c .before .before .before .before .before .is-joining .ensures, not-false (c .before .before .before .before .before .is-joining .result) (c .before .before .before .before .if1 .left), ← c .before .before .count .ensures .0, le-leb _ _ (c .before .if2 .taken), c .refuse2 .ensures) (refl, refl)
-
-returns-3 : tie.Need-returns-3
-unfolding copyingOn
-returns-3 c = simp (← c .before .before .before .before .before .before .before .before .is-joining .ensures, not-false (c .before .before .before .before .before .before .before .before .is-joining .result) (c .before .before .before .before .before .before .before .if1 .left), ← c .before .before .before .before .before .count .ensures .0, lt-leb _ _ (c .before .before .before .before .if2 .left), ← c .before .before .copy .ensures, c .before .no-edit .ensures, c .done .ensures) (refl, refl)
+returns-2 c = simp (← c .before .before .before .before .before .is-joining .ensures, not-false (c .before .before .before .before .before .is-joining .result) (c .before .before .before .before .if1 .left), ← c .before .before .copy .ensures, c .before .no-edit .ensures, c .done .ensures) (refl, refl)
 
 pub copy-on-spec : {M : Type 1} → statement M
 copy-on-spec =
@@ -26,8 +22,5 @@ copy-on-spec =
     returns
     (λ c κs. search needs)
     (λ c κs. search needs)
-    returns-2
     (λ c κs. search needs)
-    (λ c κs. search needs)
-    (λ c κs. search needs)
-    returns-3)
+    returns-2)

@@ -3,7 +3,7 @@ use Rattle.steps.proofs.send.Statement.{statement}
 use Rattle.steps.proofs.send.Tie as tie
 
 returns : tie.Need-returns
-returns c = simp (← c .before .before .packet-of .ensures, ← c .before .packet-of2 .ensures, c .add-two .ensures)
+returns c = simp (← c .before .before .reply-to .ensures, ← c .before .completion-of .ensures, c .add-two .ensures)
 
 pub send-spec : {M : Type 1} → statement M
-send-spec = tie.close (tie.spec (λ c. search needs) (λ c κs. search needs) (λ c κs. search needs) (λ c κs. search needs) returns)
+send-spec = tie.close (tie.spec (λ c κs. search needs) (λ c κs. search needs) (λ c κs. search needs) returns)

@@ -10,7 +10,7 @@ returns c = λ row. rw (lt-ltb _ _ (c .before .before .before .before .if1 .take
 
 returns-2 : tie.Need-returns-2
 unfolding firstPrinted
-returns-2 c = λ row. rw (le-ltb _ _ (c .before .before .before .before .before .before .before .before .before .before .before .before .if1 .left), ← c .before .before .before .before .before .before .before .before .before .before .before .read-at .ensures, c .before .before .before .before .before .before .before .before .before .x .given .1, ← c .before .before .before .before .before .before .before .replicas-of .ensures) (c .before .before .start-with .ensures row)
+returns-2 c = λ row. rw (le-ltb _ _ (c .before .before .before .before .before .before .before .before .before .before .before .before .if1 .left), ← c .before .before .before .before .before .before .before .before .before .before .before .read-at .ensures, c .before .before .before .before .before .before .before .before .before .x .given .1, ← c .before .before .before .before .before .before .before .setup-of .ensures) (c .before .before .start-with .ensures row)
 
 returns-3 : tie.Need-returns-3
 unfolding firstPrinted

@@ -3,8 +3,6 @@ use native.Mathlib.Omega.{arith}
 use borrow.Author.Needs.{needs}
 use Rattle.turns.proofs.place_after.Statement.{statement}
 use Rattle.turns.proofs.place_after.Tie as tie
-use Rattle.turns.proofs.place_after.Reads as reads
-use Rattle.turns.proofs.place_after.Lts as lts
 
 -- src/lib.rt:84:8
 sub-if1 : tie.Need-sub-if1

@@ -3,11 +3,6 @@ use mathlib.Core.Path.{ap, _∙_}
 use borrow.Author.Needs.{needs}
 use Rattle.turns.proofs.put_malformed.Statement.{statement}
 use Rattle.turns.proofs.put_malformed.Tie as tie
-use Rattle.turns.proofs.put_malformed.Reads as reads
-use Rattle.turns.proofs.put_malformed.Lts as lts
-use Rattle.lines.proofs.put_refusal.Reads as put-refusal-reads
-use Rattle.protocol.proofs.answers.refusal_number.Reads as refusal-number-reads
-use Rattle.turns.proofs.place_after.Reads as place-after-reads
 
 -- src/lib.rt:169:57
 refusal-number-requires : tie.Need-refusal-number-requires

@@ -11,7 +11,7 @@ unfolding startedWith standsAs
 returns c = λ row.
     let answer = c .before .before .before .before .before .before .start .ensures in
     let line = c .before .before .before .put-answer .ensures in record {
-      stands = start-stands _ _ _ row _ _ _ _ _ _ (c .before .before .before .before .before .start-refused .ensures) (answer .1) (answer .2) (answer .3);
+      stands = start-stands _ _ _ row _ _ _ _ _ _ (c .before .before .before .before .before .is-refused .ensures) (answer .1) (answer .2) (answer .3);
       left = refl;
       place = rw (answer .0) at (c .place-after .ensures ∙ ap (placeAfter 0) (line .0));
       there = rw (answer .0) at (line .1);
