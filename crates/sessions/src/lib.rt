@@ -160,11 +160,23 @@ pub fn asked(bytes: &[u8]) -> Step
     whole_step(reader::record_at(bytes, 0), bytes.len())
 }
 
-// What the start of a record sets up.
+// What the start of a record sets up. It does not call `asked`, which with one caller is compiled into the step.
 fn start_asked(bytes: &[u8]) -> Setup
     ensures { λ r. ⌜ r ≡ startAsked (now (bytes .entry)) ⌝ }
 {
-    setups::setup_of(asked(bytes))
+    if bytes.len() != 4 {
+        return Setup::Missing;
+    }
+    if bytes[0] != 32 {
+        return Setup::Missing;
+    }
+    if bytes[1] != 0 {
+        return Setup::Missing;
+    }
+    if bytes[2] != 1 {
+        return Setup::Missing;
+    }
+    Setup::Chain(bytes[3])
 }
 
 // How many marks the session has after a step: a refused one leaves them as they were.
