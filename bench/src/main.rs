@@ -5,7 +5,7 @@
 mod child;
 mod table;
 
-use second_model::generate::{generate, KINDS};
+use second_model::generate::generate;
 use second_model::model::{Answer, Model as Second};
 use second_model::records::{self, Record};
 use second_model::run::output;
@@ -35,20 +35,48 @@ fn main() {
         eprintln!("usage: bench RUN SECOND-RUN [--rounds N]     N from 1 ({ROUNDS})");
         std::process::exit(2);
     }
-    let inputs: Vec<_> = kinds()
-        .map(|kind| (kind, generate(kind, SEED, LONGEST).expect("a kind")))
+    let inputs: Vec<_> = CHAIN
+        .iter()
+        .chain(&QUORUM)
+        .map(|kind| (*kind, generate(kind, SEED, LONGEST).expect("a kind")))
         .collect();
     steps(rounds, &inputs);
     processes(rounds, &inputs, programs);
     growth(rounds);
 }
 
-/// The kinds whose files run to their end.
-fn kinds() -> impl Iterator<Item = &'static str> {
-    let ends = ["damaged", "noise", "give-ups"];
-    let names = KINDS.iter().map(|(name, _)| *name);
-    names.filter(move |name| !ends.contains(name))
-}
+/// The kinds whose files run to their end, those of a chain and those of a quorum
+/// store. Each has a mean of its own.
+const CHAIN: [&str; 21] = [
+    "accepted",
+    "dense",
+    "full-waiting",
+    "full-links",
+    "full-open",
+    "colliding",
+    "replacements",
+    "removals",
+    "repeats-losses",
+    "direct-reads",
+    "pending-writes",
+    "lone",
+    "small",
+    "limits",
+    "random-steps",
+    "contexts",
+    "context-faults",
+    "small-contexts",
+    "joins",
+    "join-faults",
+    "small-joins",
+];
+const QUORUM: [&str; 5] = [
+    "quorum",
+    "quorum-full",
+    "quorum-acks",
+    "quorum-replacements",
+    "small-quorum",
+];
 
 /// For each row the least cost of ours and of theirs. A round takes every row
 /// once, both sides right after each other; who begins changes with the round.
@@ -78,26 +106,37 @@ fn steps(rounds: usize, inputs: &[(&str, Vec<u8>)]) {
     let costs = least(rounds, inputs.len(), |row, side| {
         let (start, rest) = pieces[row].split_first().expect("a start");
         let seconds = timed(|| match side {
-            Side::Ours => step_ours(start[3], rest),
-            Side::Theirs => step_theirs(start[3], rest),
+            Side::Ours => step_ours(start, rest),
+            Side::Theirs => step_theirs(start, rest),
         });
         seconds * 1e9 / rest.len() as f64
     });
-    let names = inputs.iter().map(|(kind, _)| kind);
     let head = ["(a) steps", "ours, ns", "second, ns", "ratio"];
-    table::print(head, names, &costs);
+    print(head, &costs);
 }
 
-fn step_ours(n: u8, records: &[&[u8]]) {
-    let mut model = Model::start(n).expect("1 to 8");
+/// The costs of each kind, with a mean for the chain and one for the quorum store.
+fn print(head: [&str; 4], costs: &[[f64; 2]]) {
+    let (chain, quorum) = costs.split_at(CHAIN.len());
+    table::print_head(head);
+    table::print_rows(&CHAIN, chain);
+    table::print_rows(&QUORUM, quorum);
+    println!();
+}
+
+fn step_ours(start: &[u8], records: &[&[u8]]) {
+    let mut model = Model::start_record(start).expect("a start");
     for record in records {
         black_box(model.step(record));
         black_box((model.waiting(), model.marks()));
     }
 }
 
-fn step_theirs(n: u8, records: &[&[u8]]) {
-    let mut model = Second::start(n).expect("1 to 8");
+fn step_theirs(start: &[u8], records: &[&[u8]]) {
+    let Some((Record::Start(start), _)) = records::read(start) else {
+        unreachable!("a file begins with a start");
+    };
+    let mut model = Second::start(start).expect("a start");
     for record in records {
         black_box(step_second(&mut model, record));
         black_box((model.waiting(), model.counting_marks()));
@@ -108,7 +147,7 @@ fn step_theirs(n: u8, records: &[&[u8]]) {
 fn step_second(model: &mut Second, record: &[u8]) -> Option<Answer> {
     match records::read(record)? {
         (Record::Step(step), _) => Some(model.step(step)),
-        (Record::Start { .. }, _) => None,
+        (Record::Start(_), _) => None,
     }
 }
 
@@ -120,17 +159,16 @@ fn processes(rounds: usize, inputs: &[(&str, Vec<u8>)], programs: [&str; 2]) {
     for (kind, file) in inputs {
         std::fs::write(folder.join(kind), file).expect("a temporary file");
     }
-    let names = || inputs.iter().map(|(kind, _)| kind);
     let times = least(rounds, inputs.len(), |row, side| {
         child::seconds(programs[side as usize], &folder.join(inputs[row].0)) * 1e3
     });
     let head = ["(b) programs", "ours, ms", "second, ms", "ratio"];
-    table::print(head, names(), &times);
+    print(head, &times);
     let sizes = least(rounds, inputs.len(), |row, side| {
         child::kibibytes(programs[side as usize], &folder.join(inputs[row].0))
     });
     let head = ["(c) memory", "ours, KiB", "second, KiB", "ratio"];
-    table::print(head, names(), &sizes);
+    print(head, &sizes);
     std::fs::remove_dir_all(&folder).expect("it was there");
 }
 
@@ -160,5 +198,7 @@ fn growth(rounds: usize) {
         seconds * 1e9 / counts[row] as f64
     });
     let head = ["(d) records", "ours, ns each", "second, ns each", "ratio"];
-    table::print(head, counts.iter(), &costs);
+    table::print_head(head);
+    table::print_rows(&counts, &costs);
+    println!();
 }

@@ -1,5 +1,6 @@
-/* A load generator's inner loop: writes object after object, reads each while its write is pending, and prints the model's lines. Then it reads two objects at once. In the
- * end a server of a second store is swapped: a replica joins, gets copies and writes, and takes the place of another; and starts that are refused leave it as it was. */
+/* A load generator's inner loop: writes object after object, reads each while its write is pending, and prints the model's lines. Then it reads two objects at once. After that
+ * a server of a second store is swapped: a replica joins, gets copies and writes, and takes the place of another; and starts that are refused leave it as it was. In the end a
+ * follower of a quorum store is asked, before it has executed what the leader has and after. */
 #include "woldladle.h"
 #include <stdio.h>
 #include <string.h>
@@ -128,6 +129,55 @@ static int refused_starts(void) {
     return wrong;
 }
 
+static void print_positions(uint8_t replica) {
+    uint32_t told[WOLDLADLE_POSITIONS];
+    if (woldladle_positions(model.store, replica, told))
+        printf("replica %u: logged %u, executed %u, acknowledged %u\n", replica, (unsigned)told[0], (unsigned)told[1], (unsigned)told[2]);
+    else
+        printf("replica %u: no positions\n", replica);
+}
+
+/* Reads object 5, and has the switch ask replica 2 where direct reads are on. */
+static void ask_replica_2(void) {
+    step(1, 5, 0);
+    step(3, 0, 1);
+    while (model.session.waiting > 0)
+        step(3, 0, 0);
+}
+
+/* Replica 2 follows a leader; 0 if every refusal is the one expected. */
+static int ask_a_follower(void) {
+    int wrong = 0;
+    print_positions(1); /* a chain's replica has none */
+    number = 0;
+    wrong |= woldladle_model_start_quorum(&model, 4) != 2;
+    wrong |= woldladle_model_start_quorum(&model, 3) != 0;
+    print_line();
+    print_chain();
+    step(2, 5, 900);
+    step(3, 0, 0); /* the switch marks it */
+    step(3, 0, 0); /* the leader logs it, and sends it to its followers */
+    step(6, 2, 0); /* replica 2 logs it */
+    print_positions(2);
+    wrong |= step(14, 0, 0) != 24; /* the leader does not know that a majority holds it */
+    step(3, 0, 0);                 /* .. until the acknowledgement is delivered */
+    print_positions(2);
+    wrong |= step(14, 0, 0) != 0; /* so now it executes it */
+    while (model.session.waiting > 0)
+        step(3, 0, 0); /* the reply and the completion */
+    print_positions(1);
+    print_held(1, 5);
+    print_held(2, 5);
+    ask_replica_2(); /* it has not executed enough, and sends the read on to the leader */
+    step(6, 2, 0);   /* it hears how far the leader has executed, and executes as far */
+    print_positions(2);
+    print_held(2, 5);
+    ask_replica_2();              /* it answers */
+    wrong |= step(9, 3, 0) != 23; /* no replica of such a store is removed */
+    print_positions(4);
+    return wrong;
+}
+
 int main(void) {
     start(1);
     for (uint32_t object = 5; object < 8; object++) {
@@ -144,5 +194,5 @@ int main(void) {
     read_context((const uint16_t[]){7, 5}, 2);
     if (step(1, 1024, 0) != 3) /* refused: no such object */
         return 1;
-    return swap_a_server() || refused_starts();
+    return swap_a_server() || refused_starts() || ask_a_follower();
 }

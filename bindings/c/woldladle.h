@@ -7,7 +7,8 @@
  *
  *   struct woldladle_session        64 bytes, aligned to 8
  *   uint32_t switch_numbers[150]    600 bytes: the switch, its marks and how many of them count
- *   uint32_t store[24939]           99,756 bytes: the chain, the values and stamps of its replicas and of one that joins, and the writes in the links
+ *   uint32_t store[25340]           101,360 bytes: the replicas in their order, their values and stamps and those of one that joins, and the writes in the links; of a quorum
+ *                                   store also the leader's log, and what each replica has logged and acknowledged
  *   uint32_t opens[642]             2,568 bytes: the open operations, and a row for each waiting packet of a read of several objects
  *   packets[64]                     1,536 bytes, aligned to 8: the waiting packets, oldest first; a longer array is taken too, and its first 64 places are used
  *
@@ -27,20 +28,21 @@ extern "C" {
 #endif
 
 #define WOLDLADLE_SWITCH 150
-#define WOLDLADLE_STORE 24939
+#define WOLDLADLE_STORE 25340
 #define WOLDLADLE_OPENS 642
 #define WOLDLADLE_PLACES 64
 #define WOLDLADLE_REPLICAS 8        /* the most that are live at a time */
 #define WOLDLADLE_CHAIN 10          /* the numbers that woldladle_chain writes */
+#define WOLDLADLE_POSITIONS 3       /* .. and woldladle_positions */
 #define WOLDLADLE_LONGEST_CONTEXT 8 /* the most objects that one read names */
-#define WOLDLADLE_SHORTEST_RECORD 3 /* tags 12 and 13, which have no content */
+#define WOLDLADLE_SHORTEST_RECORD 3 /* tags 12, 13 and 14, which have no content */
 #define WOLDLADLE_LONGEST_RECORD 19
 #define WOLDLADLE_LONGEST_LINE 147
 #define WOLDLADLE_LONGEST_INPUT 65536
 #define WOLDLADLE_OUTPUT_ROOM 3276800 /* room for the output of any input, which has 21,845 records at the most */
 
-/* What a finished read says, if its object had a counting mark when the switch sent it to the tail: the stamp of its value is below the mark's (old), or it is not (new).
- * A read of several objects says neither. */
+/* What a finished read says, if its object had a counting mark when the switch sent it to the tail, or to the leader of a quorum store: the stamp of its value is below the
+ * mark's (old), or it is not (new). A read of several objects says neither. */
 #define WOLDLADLE_NONE 0
 #define WOLDLADLE_OLD 1
 #define WOLDLADLE_NEW 2
@@ -60,8 +62,9 @@ struct woldladle_packet {
     uint64_t own[3];
 };
 
-/* The start of one record, all of whose `length` bytes are lent: replicas numbered 1 to n, an empty store, and the session all zeros. Refusals: 1 where the bytes are not one
- * whole start record, and so for any other record; 2 for its numbers (n outside 1 to 8). After either the session before it can go on. */
+/* The start of one record, all of whose `length` bytes are lent: replicas numbered 1 to n, an empty store, and the session all zeros. Tag 32 starts a chain, tag 33 a quorum
+ * store, with replica 1 its leader and the others followers, all of them live for good. Refusals: 1 where the bytes are not one whole start record, and so for any other record;
+ * 2 for its numbers (tag 32: n outside 1 to 8; tag 33: n other than 3, 5 and 7). After either the session before it can go on. */
 void woldladle_start(struct woldladle_session *session, uint32_t *switch_numbers, uint32_t *store, uint32_t *opens, const uint8_t *record, size_t length);
 
 /* The step of one record, all of whose `length` bytes are lent. Refusals in this order: 1 where the bytes are not one whole record, and for a start; 15 where there are
@@ -71,7 +74,11 @@ void woldladle_start(struct woldladle_session *session, uint32_t *switch_numbers
  *
  * Tag 12 begins the join of a replica, which gets the next number never used, and each tag 13 copies the next 64 objects to it from the tail. The sixteenth copy makes it
  * the tail; before that it is not live. To remove the tail ends the join. Refused: tag 12 by 17 where eight replicas are live or number 255 has been given, then by 18 where
- * a join is under way; tag 13 by 19 where none is. */
+ * a join is under way; tag 13 by 19 where none is.
+ *
+ * Tag 14 makes the leader of a quorum store execute the next write of its log that a majority holds, by the acknowledgements delivered to it and counting itself. Refused by 24
+ * where there is no such write or a link is full, then by 6. In such a store tag 6 takes the oldest item of a follower's link: an entry is logged and acknowledged by a packet
+ * (6 where the list is full), an executed stamp is executed up to. Tags 9, 12 and 13 are refused there by 23, and so is tag 14 in a chain, before any other but 1 and 15. */
 void woldladle_step(struct woldladle_session *session, uint32_t *switch_numbers, uint32_t *store, uint32_t *opens, struct woldladle_packet *packets, size_t places,
                     const uint8_t *record, size_t length);
 
@@ -80,34 +87,38 @@ void woldladle_step(struct woldladle_session *session, uint32_t *switch_numbers,
 size_t woldladle_line(uint64_t number, uint8_t refusal, uint32_t operation, uint32_t count, const uint32_t values[WOLDLADLE_LONGEST_CONTEXT], uint32_t freshness,
                       size_t waiting, uint32_t marks, uint8_t *out, size_t length);
 
-/* Writes the record of a tag with its numbers in their order, 0 for one that it does not have; tags 12 and 13 have none, and tag 10 takes any operation and is written with
- * length 4. 0; or 1 where no such record exists, and for tag
- * 11, whose record woldladle_write_context writes; or 15 where `out` is too short. A refusal leaves `out` as it was. */
+/* Writes the record of a tag with its numbers in their order, 0 for one that it does not have; tags 12, 13 and 14 have none, tags 32 and 33 have n, and tag 10 takes any operation
+ * and is written with length 4. 0; or 1 where no such record exists, and for tag 11, whose record woldladle_write_context writes; or 15 where `out` is too short. A refusal
+ * leaves `out` as it was. */
 uint8_t woldladle_write_record(uint8_t tag, uint32_t first, uint32_t second, uint8_t *out, size_t length);
 
 /* Writes the record of a read of `count` objects (tag 11), 3 + 2 * count bytes. 0; or 1 where `count` is not 2 to 8; or 15 where `out` is too short. A refusal leaves `out`
  * as it was. Any objects are written: the step refuses those that it does not allow. */
 uint8_t woldladle_write_context(const uint16_t *objects, size_t count, uint8_t *out, size_t length);
 
-/* How many bytes the record of a tag has, from 3 (tags 12 and 13) to 9; 0 for an unknown tag, and for tag 11, whose record has no fixed length. */
+/* How many bytes the record of a tag has, from 3 (tags 12, 13 and 14) to 9; 0 for an unknown tag, and for tag 11, whose record has no fixed length. */
 uint16_t woldladle_record_length(uint8_t tag);
 
 /* The value and the stamp (switch number times 4,294,967,296, and counter) of an object at a replica, by its number, 1 to 255. Only the live replicas and one that joins hold
  * any: 0 where there is no such replica or object, and from the step on that removes a replica or ends its join. One that joins has an object from the copy of it on, and
- * 0 before. */
+ * 0 before. A replica of a quorum store holds what it has executed; what it has only logged does not show. */
 uint32_t woldladle_value(const uint32_t *store, uint8_t replica, uint32_t object);
 uint64_t woldladle_stamp(const uint32_t *store, uint8_t replica, uint32_t object);
 
 /* How many replicas are live. `out` gets eight numbers of live replicas in chain order, the head's first, 0 behind the last; then the number of the replica that joins, or
- * 0; then how many copies it has, 0 to 15, or 0 where none joins. */
+ * 0; then how many copies it has, 0 to 15, or 0 where none joins. Of a quorum store these are all its replicas, the leader first, and none joins. */
 uint8_t woldladle_chain(const uint32_t *store, uint8_t out[WOLDLADLE_CHAIN]);
+
+/* How far a replica of a quorum store is, by its number: `out` gets how many entries it has logged, how many of them it has executed, and how many the leader knows it to have
+ * acknowledged (0 for the leader itself, which needs none). 1; or 0, and `out` is as it was, where the store is a chain or has no such replica. */
+uint8_t woldladle_positions(const uint32_t *store, uint8_t replica, uint32_t out[WOLDLADLE_POSITIONS]);
 
 /* Everything that the run program prints for a file of records. How many bytes the whole output has, whatever `room` is: `out` holds its whole lines, from the front up
  * to the first that does not fit, and every byte after them is as it was. WOLDLADLE_RUN_STACK bytes are stack enough for it. */
 #define WOLDLADLE_RUN_STACK 131072
 size_t woldladle_run(const uint8_t *input, size_t length, uint8_t *out, size_t room);
 
-/* The records of a start with n replicas and of `steps` random steps, the same for the same seed on every machine, at the start of `out`; bytes beyond stay as they were. How
+/* The records of a start of a chain with n replicas and of `steps` random steps, the same for the same seed on every machine, at the start of `out`; bytes beyond stay as they were. How
  * many bytes they have; or minus the refusal, and `out` is as it was: -2 where n is not 1 to 8, then -20 above 7,000 steps, then -15 where `length` is less than they have.
  * WOLDLADLE_LONGEST_INPUT bytes are room for any. Each draw is (seed times 1,664,525 plus 1,013,904,223) mod 2^32, and the next seed; tags 1 to 10 are drawn. */
 #define WOLDLADLE_MOST_STEPS 7000
@@ -136,9 +147,15 @@ static inline uint8_t woldladle_model_start_record(struct woldladle_model *model
     return model->session.refusal;
 }
 
-/* A start with n replicas. */
+/* A start of a chain with n replicas. */
 static inline uint8_t woldladle_model_start(struct woldladle_model *model, uint8_t n) {
     const uint8_t record[4] = {32, 0, 1, n};
+    return woldladle_model_start_record(model, record, sizeof record);
+}
+
+/* A start of a quorum store: a leader and n - 1 followers. */
+static inline uint8_t woldladle_model_start_quorum(struct woldladle_model *model, uint8_t n) {
+    const uint8_t record[4] = {33, 0, 1, n};
     return woldladle_model_start_record(model, record, sizeof record);
 }
 

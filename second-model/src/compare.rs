@@ -3,17 +3,19 @@
 
 mod answers;
 pub mod draws;
+mod quorums;
 mod shorten;
 pub mod shortenings;
 pub mod threads;
 
+pub use quorums::Quorums;
 pub use shorten::shorten;
 
 use crate::generate::{generate, length, small_length, Random, KINDS, SMALL};
-use crate::model::{Age, Finished, Refusal, Way};
+use crate::model::{Age, Finished, Model, Refusal, Way};
 use crate::order::{find_order, history};
 use crate::records::{given_up_in_four_bytes, given_up_in_two_bytes, pieces};
-use crate::run::{output, walk, Outcome};
+use crate::run::{output, walk_by, Outcome};
 use crate::words::describe;
 use std::fs::{self, File};
 use std::io;
@@ -30,6 +32,12 @@ pub struct Task {
     pub keep: PathBuf,
 }
 
+/// The highest refusal of a step.
+const HIGHEST: usize = 24;
+
+/// Refusals that no run has: those of drawing and shortening.
+const OF_NO_RUN: std::ops::RangeInclusive<usize> = 20..=22;
+
 /// How often each answer occurred, and how much was compared.
 #[derive(Clone, Debug, Default)]
 pub struct Tally {
@@ -43,7 +51,8 @@ pub struct Tally {
     pub contexts: Contexts,
     pub joins: Joins,
     pub give_ups: GiveUps,
-    pub refusals: [usize; 20],
+    pub quorums: Quorums,
+    pub refusals: [usize; 1 + HIGHEST],
     pub orders: usize,
     pub ordered_operations: usize,
 }
@@ -151,7 +160,9 @@ impl Tally {
         self.files += 1;
         self.bytes += input.len();
         let pieces = pieces(input);
-        walk(input, |number, outcome| {
+        let mut quorums = self.quorums;
+        let step = |model: &mut Model, step| quorums.step(model, step);
+        walk_by(input, step, |number, outcome| {
             self.count_line(outcome);
             let Some(piece) = pieces.get(number.wrapping_sub(1)) else {
                 return;
@@ -161,6 +172,7 @@ impl Tally {
                 self.joins.count(piece[0]);
             }
         });
+        self.quorums = quorums;
     }
 
     /// Counts one line.
@@ -200,6 +212,7 @@ impl Tally {
         self.give_ups.short_refused += other.give_ups.short_refused;
         self.give_ups.long += other.give_ups.long;
         self.give_ups.long_refused += other.give_ups.long_refused;
+        self.quorums.add(&other.quorums);
         self.orders += other.orders;
         self.ordered_operations += other.ordered_operations;
         for (ours, theirs) in self.refusals.iter_mut().zip(other.refusals) {
@@ -207,10 +220,10 @@ impl Tally {
         }
     }
 
-    /// The rows about contexts, joins and give-ups.
+    /// The rows about contexts, joins, give-ups and quorum stores.
     pub fn rows(&self) -> impl Iterator<Item = (&'static str, usize)> {
         let rows = self.contexts.rows().into_iter().chain(self.joins.rows());
-        rows.chain(self.give_ups.rows())
+        rows.chain(self.give_ups.rows()).chain(self.quorums.rows())
     }
 
     /// The last line and the table of answers.
@@ -226,7 +239,8 @@ impl Tally {
         for (name, times) in self.rows() {
             row(name, times);
         }
-        for (number, &times) in self.refusals.iter().enumerate().skip(1) {
+        let answers = self.refusals.iter().enumerate().skip(1);
+        for (number, &times) in answers.filter(|(number, _)| !OF_NO_RUN.contains(number)) {
             row(&format!("no {number}"), times);
         }
         text + &format!(
@@ -258,6 +272,8 @@ pub fn with_commas(number: usize) -> String {
 /// The files of so many kinds, the first ones, have one run of numbers; those of
 /// each later kind have their own.
 const FIRST_KINDS: usize = 23;
+/// The same for the kinds of small runs.
+const FIRST_SMALL: usize = 3;
 
 /// The number by which the file with this index is drawn. A kind that is added
 /// leaves those of the others as they were.
@@ -269,13 +285,23 @@ fn drawn_by(index: usize) -> usize {
     }
 }
 
+/// The same for a small run, with an index from 0: the first three kinds have one
+/// run of numbers behind those of the files.
+fn small_drawn_by(files: usize, index: usize) -> usize {
+    let (round, place) = (index / SMALL.len(), index % SMALL.len());
+    match place.checked_sub(FIRST_SMALL) {
+        None => files + round * FIRST_SMALL + place,
+        Some(later) => ((later + 1) << 28) + round,
+    }
+}
+
 /// The file with this index of a comparison: its kind and bytes. Those from
-/// `files` on are the small runs, a third of them with reads of contexts and a
-/// third with joins.
+/// `files` on are the small runs, as many with reads of contexts, with joins and
+/// with a quorum store as without.
 pub fn file(task: &Task, index: usize) -> (&'static str, Vec<u8>) {
-    let number = match index < task.files {
-        true => drawn_by(index),
-        false => index,
+    let number = match index.checked_sub(task.files) {
+        None => drawn_by(index),
+        Some(small) => small_drawn_by(task.files, small),
     };
     let mut random = Random::new(task.seed.wrapping_add((number as u64) << 32));
     random.draw();
@@ -362,10 +388,11 @@ pub fn compare_one(
     Ok(None)
 }
 
-/// The refusals that a file can bring about: all but 4 and 15.
+/// The refusals that a file can bring about: all but 4 and 15, and those of no run.
 pub fn reachable() -> impl Iterator<Item = usize> {
     let far = [Refusal::NumbersUsedUp, Refusal::BufferTooShort];
-    (1..=19).filter(move |number| far.iter().all(|r| usize::from(r.number()) != *number))
+    let of_runs = (1..=HIGHEST).filter(|number| !OF_NO_RUN.contains(number));
+    of_runs.filter(move |number| far.iter().all(|r| usize::from(r.number()) != *number))
 }
 
 #[cfg(test)]
@@ -390,7 +417,9 @@ mod tests {
     #[test]
     fn four_and_fifteen_are_beyond_a_file() {
         let all: Vec<usize> = reachable().collect();
-        let expected = [1, 2, 3, 5, 6, 7, 8, 9, 10, 11, 12, 13, 14, 16, 17, 18, 19];
+        let expected = [
+            1, 2, 3, 5, 6, 7, 8, 9, 10, 11, 12, 13, 14, 16, 17, 18, 19, 23, 24,
+        ];
         assert_eq!(all, expected);
     }
 
@@ -421,11 +450,14 @@ mod tests {
     #[test]
     fn no_two_files_are_drawn_alike() {
         let mut numbers: Vec<usize> = (0..100_000).map(drawn_by).collect();
-        assert_eq!((numbers[22], numbers[24], numbers[47 + 1]), (22, 23, 46));
-        assert_eq!((numbers[23], numbers[47]), (1 << 24, (1 << 24) + 1));
+        let all = KINDS.len();
+        let first = (numbers[22], numbers[all], numbers[2 * all]);
+        assert_eq!(first, (22, 23, 46));
+        assert_eq!((numbers[23], numbers[23 + all]), (1 << 24, (1 << 24) + 1));
+        numbers.extend((0..100_000).map(|index| small_drawn_by(100_000, index)));
         numbers.sort_unstable();
         numbers.dedup();
-        assert_eq!(numbers.len(), 100_000);
+        assert_eq!(numbers.len(), 200_000);
     }
 
     /// Give-ups of both lengths, and one that ends the run as a fault.
@@ -445,6 +477,38 @@ mod tests {
         for line in [
             "give-up 2, ok                 2",
             "give-up 4, no 13              2",
+        ] {
+            assert!(report.contains(line), "{report}");
+        }
+    }
+
+    /// A write executed by two of three, one that is dropped for a full link, direct
+    /// reads at a follower that lags, one answered and one not, and each 24.
+    #[test]
+    fn quorum_stores_are_counted() {
+        let round =
+            "write 5 1; 2 * deliver 0; advance 2; deliver 0; execute; 2 * deliver 0; advance 2";
+        let lagging = "write 6 8; 2 * deliver 0; advance 2; deliver 0; execute; read 5; \
+                       deliver 2 1; 2 * deliver 2; deliver 1; read 5; deliver 1 1; 3 * deliver 1; \
+                       deliver 0";
+        let full = "advance 2; 29 * (write 5 1; 2 * deliver 0; advance 2; deliver 0; execute; \
+                    2 * deliver 0; advance 2); 2 * (write 5 1; 2 * deliver 0; advance 2; deliver 0)";
+        let input = words::file(&format!(
+            "start-quorum 3; {round}; {lagging}; {full}; execute; write 5 1; 2 * deliver 0; \
+             advance 3; deliver 0; execute; advance 3; lose 0; advance 3; execute; advance 3; \
+             execute; execute"
+        ));
+        let mut tally = Tally::default();
+        tally.count(&input);
+        let mut twice = tally.clone();
+        twice.add(&tally);
+        let times = |tally: &Tally| tally.quorums.rows().map(|(_, times)| times);
+        assert_eq!(times(&tally), [1, 1, 33, 0, 1, 0, 1]);
+        assert_eq!(times(&twice), [2, 2, 66, 0, 2, 0, 2]);
+        let report = tally.report();
+        for line in [
+            "lagging, answered             1",
+            "drop, full link               1",
         ] {
             assert!(report.contains(line), "{report}");
         }

@@ -2,7 +2,7 @@
 
 pub mod command;
 
-use crate::model::{Refusal, Step, REPLICAS};
+use crate::model::{Refusal, Start, Step, REPLICAS};
 use crate::records::{append, Record};
 use crate::run::INPUT_LONGEST;
 
@@ -123,7 +123,7 @@ pub fn draw_by(seed: u32, n: u64, count: u64, used: Used) -> Result<Vec<u8>, Ref
         return Err(Refusal::TooManySteps);
     }
     let mut file = Vec::new();
-    append(Record::Start { replicas }, &mut file);
+    append(Record::Start(Start::Chain { replicas }), &mut file);
     for step in steps_by(seed, used).take(count as usize) {
         append(Record::Step(step), &mut file);
     }
@@ -235,7 +235,7 @@ mod tests {
             let (n, count) = (u64::from(seed % 8 + 1), u64::from(seed) * 31 % 7001);
             let file = draw(seed, n, count).unwrap();
             let read: Result<Vec<Record>, Refusal> = Reader::new(&file).collect();
-            let start = Record::Start { replicas: n as u8 };
+            let start = Record::Start(Start::Chain { replicas: n as u8 });
             let steps = steps(seed).take(count as usize).map(Record::Step);
             let drawn: Vec<Record> = std::iter::once(start).chain(steps).collect();
             assert_eq!(read, Ok(drawn), "seed {seed}");

@@ -17,6 +17,7 @@ mod give_ups;
 mod joins;
 mod late_completions;
 mod marks;
+mod quorum;
 mod refusals;
 mod removals;
 mod rounds;
@@ -29,7 +30,7 @@ use std::io;
 use std::path::Path;
 
 /// The tables, in the order in which the examples are listed.
-const TABLES: [&str; 11] = [
+const TABLES: [&str; 12] = [
     ends::TABLE,
     refusals::TABLE,
     marks::TABLE,
@@ -41,6 +42,7 @@ const TABLES: [&str; 11] = [
     joins::TABLE,
     give_ups::TABLE,
     late_completions::TABLE,
+    quorum::TABLE,
 ];
 
 /// What a twin has behind the name of its example.
@@ -179,7 +181,9 @@ mod tests {
         }
         let mut seen: Vec<u8> = seen.into_iter().collect();
         seen.sort_unstable();
-        let reachable = [1, 2, 3, 5, 6, 7, 8, 9, 10, 11, 12, 13, 14, 16, 17, 18, 19];
+        let reachable = [
+            1, 2, 3, 5, 6, 7, 8, 9, 10, 11, 12, 13, 14, 16, 17, 18, 19, 23, 24,
+        ];
         assert_eq!(seen, reachable);
     }
 

@@ -4,7 +4,7 @@
 mod author;
 mod mood;
 
-use crate::model::Step;
+use crate::model::{Start, Step};
 use crate::records::{append, in_four_bytes, pieces, Record, LONGEST};
 use crate::run::INPUT_LONGEST;
 use author::Author;
@@ -51,7 +51,7 @@ impl Random {
 
 /// The kinds of files, each with what it is about. A kind's place goes into its
 /// files' bytes, so a new one stands behind the others.
-pub const KINDS: [(&str, &str); 24] = [
+pub const KINDS: [(&str, &str); 31] = [
     ("accepted", "mostly accepted steps of every tag"),
     ("dense", "reads and writes of few objects"),
     ("full-waiting", "nearly full waiting list"),
@@ -100,18 +100,34 @@ pub const KINDS: [(&str, &str); 24] = [
         "give-ups",
         "give-ups of both lengths, of any operation, or of a wrong length",
     ),
+    ("quorum", "a leader with followers, some of them far behind"),
+    ("quorum-full", "a leader's log and links nearly full"),
+    (
+        "quorum-acks",
+        "acknowledgements held back, lost and repeated",
+    ),
+    (
+        "quorum-replacements",
+        "new switches over a leader with followers, late completions",
+    ),
+    (
+        "quorum-faults",
+        "steps that a quorum store refuses, wrong sizes and damaged records",
+    ),
+    ("chain-executes", "a leader's step in a chain"),
+    ("small-quorum", "few operations on a leader with followers"),
 ];
 
 /// The kinds of small runs, for which an order is looked for.
-pub const SMALL: [&str; 3] = ["small", "small-contexts", "small-joins"];
+pub const SMALL: [&str; 4] = ["small", "small-contexts", "small-joins", "small-quorum"];
 
 /// So many of the kinds, the first ones, have a mood, and are damaged for kind
 /// `damaged`.
 const MOODS: usize = 14;
 
 /// A file of a kind, from a seed, of at most this length (exactly this length
-/// except for `damaged`, `context-faults`, `join-faults` and `give-ups`); none if
-/// there is no such kind.
+/// except for `damaged`, `context-faults`, `join-faults`, `give-ups` and
+/// `quorum-faults`); none if there is no such kind.
 pub fn generate(kind: &str, seed: u64, length: usize) -> Option<Vec<u8>> {
     let place = KINDS.iter().position(|(name, _)| *name == kind)?;
     let mut random = Random::new(seed ^ (place as u64) << 56);
@@ -123,6 +139,7 @@ pub fn generate(kind: &str, seed: u64, length: usize) -> Option<Vec<u8>> {
         "context-faults" => context_faults(&mut random, length),
         "join-faults" => join_faults(&mut random, length),
         "give-ups" => give_ups(&mut random, length),
+        "quorum-faults" => quorum_faults(&mut random, length),
         _ => {
             let mood = mood(kind, &mut random, length);
             Author::new(mood, random).write(length)
@@ -137,11 +154,11 @@ pub fn length(kind: &str, random: &mut Random) -> usize {
     match (kind, random.below(100)) {
         (_, 0..2) => INPUT_LONGEST + 1,
         ("small" | "small-contexts", _) => short,
-        ("small-joins", _) => 2 * short,
+        ("small-joins" | "small-quorum", _) => 2 * short,
         (_, 2..10) => INPUT_LONGEST,
         ("noise", _) => random.below(300),
         ("removals" | "pending-writes", 10..80) => random.within(100, 3000),
-        ("context-faults" | "join-faults", 10..80) => random.within(100, 6000),
+        ("context-faults" | "join-faults" | "quorum-faults", 10..80) => random.within(100, 6000),
         ("give-ups", 10..70) => random.within(30, 6000),
         (_, 10..50) => random.within(30_000, INPUT_LONGEST),
         (_, 50..75) => random.within(600, 30_000),
@@ -153,7 +170,7 @@ pub fn length(kind: &str, random: &mut Random) -> usize {
 /// copies come on top, so that there is as much traffic with joins as without.
 pub fn small_length(kind: &str, random: &mut Random) -> usize {
     match kind {
-        "small-joins" => random.within(300, 1000),
+        "small-joins" | "small-quorum" => random.within(300, 1000),
         _ => random.within(200, 700),
     }
 }
@@ -163,7 +180,7 @@ fn noise(random: &mut Random, length: usize) -> Vec<u8> {
     let mut bytes = Vec::with_capacity(length + 4);
     if random.chance(600) {
         let replicas = random.within(1, 8) as u8;
-        append(Record::Start { replicas }, &mut bytes);
+        append(Record::Start(Start::Chain { replicas }), &mut bytes);
     }
     let highest = random.one_of(&[3, 12, 40, 255]);
     while bytes.len() < length {
@@ -183,7 +200,7 @@ fn any_number(random: &mut Random) -> u32 {
 fn random_steps(random: &mut Random, length: usize) -> Vec<u8> {
     let mut bytes = Vec::with_capacity(length + LONGEST);
     let replicas = random.within(1, 8) as u8;
-    append(Record::Start { replicas }, &mut bytes);
+    append(Record::Start(Start::Chain { replicas }), &mut bytes);
     while bytes.len() < length {
         let small = random.below(12) as u16;
         let large = any_number(random) as u16;
@@ -423,6 +440,64 @@ fn wrong_give_up(random: &mut Random) -> Vec<u8> {
     bytes
 }
 
+/// A run of a leader with followers, many of its steps refused. Into some runs a
+/// record of tag 14 or 33 with a wrong length, or a second start, is put somewhere;
+/// some are cut, have a bit changed or another start.
+fn quorum_faults(random: &mut Random, length: usize) -> Vec<u8> {
+    let mood = mood("quorum-faults", random, length);
+    let seed = random.draw();
+    let mut bytes = Author::new(mood, Random::new(seed)).write(length);
+    if bytes.is_empty() {
+        return bytes;
+    }
+    let parts: Vec<usize> = pieces(&bytes).iter().map(|p| p.len()).collect();
+    let count = random.below(parts.len());
+    let boundary: usize = parts[..count].iter().sum();
+    let anywhere = random.below(bytes.len());
+    match random.below(20) {
+        0..4 => insert(&mut bytes, boundary, &wrong_execute(random)),
+        4 | 5 => spoil_length(&mut bytes, boundary, random),
+        6 => bytes.truncate(anywhere),
+        7 => bytes[anywhere] ^= 1 << random.below(8),
+        8 | 9 => {
+            let tag = random.one_of(&[32, 33]);
+            insert(&mut bytes, boundary, &[tag, 0, 1, random.below(10) as u8]);
+        }
+        10 => spoil_quorum_start(&mut bytes, random),
+        _ => {}
+    }
+    bytes.truncate(length);
+    bytes
+}
+
+/// A record of tag 14 or 33 with a wrong length, at times without all its content.
+fn wrong_execute(random: &mut Random) -> Vec<u8> {
+    let tag = random.one_of(&[14, 14, 14, 33]);
+    let length = match tag {
+        33 => random.one_of(&[0, 2, 2, 3, 256, 257]),
+        _ => random.one_of(&[1, 1, 2, 2, 3, 4, 14, 255, 256, 512, 65_535]),
+    };
+    let [high, low] = (length as u16).to_be_bytes();
+    let content = match random.below(4) {
+        0 => random.below(length + 1),
+        _ => length,
+    };
+    let mut bytes = vec![tag, high, low];
+    bytes.extend((0..content).map(|_| random.below(15) as u8));
+    bytes
+}
+
+/// Makes the start of a quorum store another one: of a wrong length, of a chain, or
+/// of the next tag.
+fn spoil_quorum_start(bytes: &mut Vec<u8>, random: &mut Random) {
+    match random.below(4) {
+        0 => drop(bytes.drain(..bytes.len().min(4))),
+        1 => insert(bytes, 0, &[33, 0, 2, 3]),
+        2 => bytes[0] = 32,
+        _ => bytes[0] = 35,
+    }
+}
+
 /// Puts bytes into a file at a place.
 fn insert(bytes: &mut Vec<u8>, place: usize, more: &[u8]) {
     bytes.splice(place..place, more.iter().copied());
@@ -493,11 +568,12 @@ mod tests {
         }
     }
 
-    /// As above; but where three or seven bytes are left a join or a copy may
-    /// fit.
+    /// As above; but where three or seven bytes are left a join, a copy or a
+    /// leader's step may fit.
     #[test]
     fn files_with_joins_end_whole_too() {
-        for kind in ["joins", "small-joins"] {
+        let executing = ["quorum", "quorum-full", "chain-executes", "small-quorum"];
+        for kind in ["joins", "small-joins"].into_iter().chain(executing) {
             for length in (0..80).chain([65_535, 65_536, 65_537]) {
                 let file = generate(kind, length as u64, length).unwrap();
                 assert_eq!(file.len(), length, "{kind}");
@@ -515,7 +591,15 @@ mod tests {
     #[test]
     fn runs_that_look_at_the_state_are_mostly_accepted() {
         let kinds = ["accepted", "dense", "colliding", "replacements", "small"];
-        let later = ["pending-writes", "contexts", "joins"];
+        let later = [
+            "pending-writes",
+            "contexts",
+            "joins",
+            "quorum",
+            "quorum-full",
+            "quorum-acks",
+            "quorum-replacements",
+        ];
         for kind in kinds.into_iter().chain(later) {
             let file = generate(kind, 3, 30_000).unwrap();
             let (mut all, mut accepted) = (0, 0);
@@ -532,7 +616,7 @@ mod tests {
 
     #[test]
     fn small_files_begin_few_operations() {
-        for (kind, most) in SMALL.into_iter().zip([8, 12, 12]) {
+        for (kind, most) in SMALL.into_iter().zip([8, 12, 12, 11]) {
             for seed in 0..50 {
                 let file = generate(kind, seed, 600).unwrap();
                 let begins = pieces(&file)
@@ -559,8 +643,8 @@ mod tests {
         sum
     }
 
-    /// The kinds that stand before the contexts, those before the joins, and those
-    /// before the give-ups: a kind that is added leaves their bytes as they are, up
+    /// The kinds that stand before the contexts, those before the joins, those before
+    /// the give-ups, and those before the quorum stores: a kind that is added leaves their bytes as they are, up
     /// to where a file's length ends it and but for the length of give-ups. A rule
     /// that changes what a run does changes them (Req 10 those with late completions).
     #[test]
@@ -568,11 +652,12 @@ mod tests {
         assert_eq!(checksum(&KINDS[..17]), 3_996_559_122_455_926_079);
         assert_eq!(checksum(&KINDS[17..20]), 17_134_643_542_790_747_144);
         assert_eq!(checksum(&KINDS[20..23]), 18_333_810_568_927_366_581);
+        assert_eq!(checksum(&KINDS[23..24]), 5_917_062_694_118_375_494);
     }
 
     /// Of the other kinds only those with faults in their bytes may have any.
     #[test]
-    fn only_the_last_kind_has_short_give_ups() {
+    fn only_one_kind_has_short_give_ups() {
         let count = |kind: &str, length: u8| -> usize {
             let files = (0..20).map(|seed| generate(kind, seed, 3000).unwrap());
             let ours = |p: &&[u8]| p.starts_with(&[10, 0, length]);
@@ -580,10 +665,15 @@ mod tests {
                 .map(|f| pieces(&f).into_iter().filter(ours).count())
                 .sum()
         };
-        let faulty = ["damaged", "noise", "context-faults", "join-faults"];
-        let sound = KINDS[..23]
-            .iter()
-            .filter(|(kind, _)| !faulty.contains(kind));
+        let faulty = [
+            "damaged",
+            "noise",
+            "context-faults",
+            "join-faults",
+            "give-ups",
+            "quorum-faults",
+        ];
+        let sound = KINDS.iter().filter(|(kind, _)| !faulty.contains(kind));
         for (kind, _) in sound {
             assert_eq!(count(kind, 2), 0, "{kind}");
         }

@@ -1,19 +1,25 @@
-//! The machine: a switch, a chain, the waiting packets and the open
+//! The machine: a switch, the store behind it, the waiting packets and the open
 //! operations, and what each step does to them (document 01; document 02,
-//! Req 01, Req 02, Req 04, Req 07 and Req 10).
+//! Req 01, Req 02, Req 04, Req 07, Req 10 and Req 11).
 
 mod chain;
 mod few;
+mod quorum;
+mod store;
 mod switch;
 
-use chain::{Chain, Replica};
+use chain::{Chain, Newcomer};
 pub use chain::{Held, Write};
 pub use few::{Few, MOST};
+use quorum::Quorum;
+pub use quorum::{Item, SIZES};
+use store::{Direct, Store};
 use switch::Switch;
 
 /// Objects are 0 to 1,023.
 pub const OBJECTS: u16 = 1024;
-/// The most packets waiting, writes linked, and operations open.
+/// The most packets waiting, writes linked, and operations open; in a quorum store
+/// the most items in one link, and entries not executed.
 pub const FULL: usize = 64;
 /// The most replicas at a start, and the most live at any time.
 pub const REPLICAS: u8 = 8;
@@ -45,10 +51,17 @@ pub type Objects = Few<u16>;
 /// Their values, in the same order; one value for a write.
 pub type Values = Few<u32>;
 
+/// A start: tag 32, a chain, or tag 33, a leader with followers.
+#[derive(Clone, Copy, Debug, PartialEq, Eq)]
+pub enum Start {
+    Chain { replicas: u8 },
+    Quorum { replicas: u8 },
+}
+
 /// A step after the start: tags 1 to 10 of "Steps and their records", tag 11,
-/// which begins a read of a context, tag 12, which begins a join, and tag 13,
-/// which copies for it. A step handed over may have any number of objects in a
-/// context.
+/// which begins a read of a context, tag 12, which begins a join, tag 13, which
+/// copies for it, and tag 14, which makes a leader execute. A step handed over may
+/// have any number of objects in a context.
 #[derive(Clone, Copy, Debug, PartialEq, Eq)]
 pub enum Step {
     Read { object: u16 },
@@ -64,6 +77,7 @@ pub enum Step {
     Context { objects: Objects },
     Join,
     Copy,
+    Execute,
 }
 
 /// The rows of "Turned down" and those that requests add, by their numbers.
@@ -92,6 +106,8 @@ pub enum Refusal {
     TooManySteps = 20,
     LastNotRefused = 21,
     TooManyRecords = 22,
+    NotInThisStore = 23,
+    NoneToExecute = 24,
 }
 
 impl Refusal {
@@ -133,8 +149,8 @@ impl Age {
 
 /// How a reply came about: by a write; by a direct read; by a read that the
 /// switch sent to the tail; by a direct read that a replica sent on to the
-/// tail. A former tail that sends a normal read on leaves it as it is. It is not
-/// printed.
+/// tail. A former tail that sends a normal read on leaves it as it is. The leader
+/// of a quorum store stands for the tail. It is not printed.
 #[derive(Clone, Copy, Debug, PartialEq, Eq)]
 pub enum Way {
     Write,
@@ -157,8 +173,9 @@ pub struct Finished {
 /// or turned down with all unchanged.
 pub type Answer = Result<Option<Finished>, Refusal>;
 
-/// A waiting packet, one case for each item of "What delivery does". A read of
-/// one object and a read of a context are the same packets. What a normal read
+/// A waiting packet, one case for each item of "What delivery does", and a
+/// follower's acknowledgement of so many entries, the first ones, to the leader. A
+/// read of one object and a read of a context are the same packets. What a normal read
 /// and a reply carry is the stamp of the mark that the switch found when it sent
 /// a read of one object to the tail; a read of a context carries none.
 #[derive(Clone, Copy, Debug, PartialEq, Eq)]
@@ -193,6 +210,10 @@ pub enum Packet {
     Completion {
         object: u16,
         stamp: Stamp,
+    },
+    Acknowledgement {
+        from: u8,
+        entries: u64,
     },
     Reply {
         operation: u32,
@@ -246,11 +267,6 @@ fn named_twice(objects: &[u16]) -> bool {
     false
 }
 
-/// What a replica holds of each object, in the order given.
-fn held_of(replica: &Replica, objects: Objects) -> Few<Held> {
-    objects.each().map(|object| replica.held(object)).collect()
-}
-
 /// The reply of a replica that holds this of the objects: it carries what its
 /// read carried, and the value's age is decided here. Only a read of one object
 /// carries a stamp.
@@ -271,21 +287,26 @@ fn answered(operation: u32, held: Few<Held>, carried: Option<Stamp>, way: Way) -
 /// The whole state of a run. `begun` is the last operation number given.
 pub struct Model {
     switch: Switch,
-    chain: Chain,
+    store: Store,
     waiting: Vec<Packet>,
     open: OpenOperations,
     begun: u32,
 }
 
 impl Model {
-    /// Tag 32: an empty store with replicas 1 to n; n outside 1 to 8 gives 2.
-    pub fn start(n: u8) -> Result<Model, Refusal> {
-        if n == 0 || n > REPLICAS {
-            return Err(Refusal::BadReplicaCount);
-        }
+    /// An empty store with replicas 1 to n. A chain with n outside 1 to 8 gives 2,
+    /// and so does a quorum store of another size than 3, 5 or 7.
+    pub fn start(start: Start) -> Result<Model, Refusal> {
+        let store = match start {
+            Start::Chain {
+                replicas: n @ 1..=REPLICAS,
+            } => Store::Chain(Chain::new(n)),
+            Start::Quorum { replicas: n } if SIZES.contains(&n) => Store::Quorum(Quorum::new(n)),
+            _ => return Err(Refusal::BadReplicaCount),
+        };
         Ok(Model {
             switch: Switch::new(1),
-            chain: Chain::new(n),
+            store,
             waiting: Vec::with_capacity(FULL),
             open: OpenOperations::new(),
             begun: 0,
@@ -308,6 +329,7 @@ impl Model {
             Step::Context { objects } => self.begin_context(objects),
             Step::Join => self.join(),
             Step::Copy => self.copy(),
+            Step::Execute => self.execute(),
         }
     }
 
@@ -385,6 +407,11 @@ impl Model {
             }
             Packet::Completion { object, stamp } => self.switch.complete(object, stamp),
             Packet::StampedWrite { to, write } => self.write_arrives(to, write),
+            Packet::Acknowledgement { from, entries } => {
+                if let Store::Quorum(quorum) = &mut self.store {
+                    quorum.acknowledge(from, entries);
+                }
+            }
             other => {
                 let next = self.passed_on(other, choice);
                 self.waiting.extend(next);
@@ -394,13 +421,14 @@ impl Model {
     }
 
     /// Only a write applied where the tail is puts two packets in the place of
-    /// one; every other delivery puts one or none.
+    /// one; every other delivery puts one or none. A leader that logs puts none.
     fn makes_two(&self, packet: Packet) -> bool {
-        let Packet::StampedWrite { to, write } = packet else {
+        let (Packet::StampedWrite { to, write }, Store::Chain(chain)) = (packet, &self.store)
+        else {
             return false;
         };
-        let place = self.chain.accepting(to, write.stamp);
-        place.is_some_and(|place| self.chain.is_tail(place))
+        let place = chain.accepting(to, write.stamp);
+        place.is_some_and(|place| chain.is_tail(place))
     }
 
     /// The packet that comes of an unstamped write or a read, if any. "A normal
@@ -420,14 +448,11 @@ impl Model {
                 switch,
                 committed,
             } => {
-                let replica = self.chain.replica(to)?;
-                let held = held_of(replica, objects);
-                let above = held.each().any(|held| held.stamp > committed);
-                if replica.permits == switch && !above {
-                    Some(answered(operation, held, None, Way::Direct))
-                } else {
-                    Some(self.to_tail(operation, objects, None, Way::SentOn))
-                }
+                let place = self.store.place(to)?;
+                Some(match self.store.direct(place, objects, switch, committed) {
+                    Direct::Answered(held) => answered(operation, held, None, Way::Direct),
+                    Direct::SentOn => self.to_tail(operation, objects, None, Way::SentOn),
+                })
             }
             Packet::NormalRead {
                 to,
@@ -436,11 +461,11 @@ impl Model {
                 carried,
                 way,
             } => {
-                let replica = self.chain.replica(to)?;
-                if to != self.chain.tail() {
+                let place = self.store.place(to)?;
+                if to != self.store.tail() {
                     return Some(self.to_tail(operation, objects, carried, way));
                 }
-                let held = held_of(replica, objects);
+                let held = self.store.held_of(place, objects);
                 Some(answered(operation, held, carried, way))
             }
             _ => None,
@@ -449,12 +474,12 @@ impl Model {
 
     /// "Unstamped write, to the switch."
     fn stamped(&mut self, operation: u32, object: u16, value: u32) -> Option<Packet> {
-        if !self.chain.all_permit(self.switch.number) {
+        if !self.store.all_permit(self.switch.number) {
             return None;
         }
         let stamp = self.switch.mark(object)?;
         Some(Packet::StampedWrite {
-            to: self.chain.head(),
+            to: self.store.head(),
             write: Write {
                 operation,
                 object,
@@ -476,9 +501,9 @@ impl Model {
             };
             return self.to_tail(operation, objects, carried, Way::Tail);
         }
-        let live = self.chain.live();
+        let place = usize::from(choice) % self.store.live();
         Packet::DirectRead {
-            to: live[usize::from(choice) % live.len()].name,
+            to: self.store.name(place),
             operation,
             objects,
             switch: self.switch.number,
@@ -495,7 +520,7 @@ impl Model {
         way: Way,
     ) -> Packet {
         Packet::NormalRead {
-            to: self.chain.tail(),
+            to: self.store.tail(),
             operation,
             objects,
             carried,
@@ -503,29 +528,33 @@ impl Model {
         }
     }
 
-    /// "Stamped write, to a replica."
+    /// "Stamped write, to a replica": to a replica of the chain, or to the leader.
     fn write_arrives(&mut self, to: u8, write: Write) {
-        if let Some(place) = self.chain.accepting(to, write.stamp) {
-            self.apply(place, write);
+        match &mut self.store {
+            Store::Chain(chain) => {
+                let place = chain.accepting(to, write.stamp);
+                if place.is_some_and(|place| chain.apply(place, write)) {
+                    self.done(write);
+                }
+            }
+            Store::Quorum(quorum) => quorum.write_arrives(write),
         }
     }
 
-    /// Applies a write at a place. "The tail, on applying a write, sends a
-    /// reply with the written value, then a completion."
-    fn apply(&mut self, place: usize, write: Write) {
-        if self.chain.apply(place, write) {
-            self.waiting.push(Packet::Reply {
-                operation: write.operation,
-                values: Few::one(write.value),
-                carried: None,
-                age: Age::None,
-                way: Way::Write,
-            });
-            self.waiting.push(Packet::Completion {
-                object: write.object,
-                stamp: write.stamp,
-            });
-        }
+    /// "The tail, on applying a write, sends a reply with the written value, then a
+    /// completion"; so does the leader on executing it.
+    fn done(&mut self, write: Write) {
+        self.waiting.push(Packet::Reply {
+            operation: write.operation,
+            values: Few::one(write.value),
+            carried: None,
+            age: Age::None,
+            way: Way::Write,
+        });
+        self.waiting.push(Packet::Completion {
+            object: write.object,
+            stamp: write.stamp,
+        });
     }
 
     /// "Reply. Finishes the operation if it is open; otherwise ignored."
@@ -560,17 +589,40 @@ impl Model {
 
     /// Tag 6. Order 9, 10, 6. The head has nothing incoming.
     fn advance(&mut self, replica: u8) -> Answer {
-        let place = self.chain.place(replica).ok_or(Refusal::NotLive)?;
-        if self.chain.live()[place].incoming.is_empty() {
+        let place = self.store.place(replica).ok_or(Refusal::NotLive)?;
+        if self.store.coming(place) == 0 {
             return Err(Refusal::NothingIncoming);
         }
-        if self.chain.is_tail(place) && self.waiting.len() + 2 > FULL {
+        if self.waiting.len() + self.sent_by_advancing(place) > FULL {
             return Err(Refusal::TooManyWaiting);
         }
-        if let Some(write) = self.chain.take_oldest(place) {
-            self.apply(place, write);
+        match &mut self.store {
+            Store::Chain(chain) => {
+                let write = chain.take_oldest(place);
+                if let Some(write) = write.filter(|&write| chain.apply(place, write)) {
+                    self.done(write);
+                }
+            }
+            Store::Quorum(quorum) => {
+                let entries = quorum.take_oldest(place);
+                let from = replica;
+                let packet = entries.map(|entries| Packet::Acknowledgement { from, entries });
+                self.waiting.extend(packet);
+            }
         }
         Ok(None)
+    }
+
+    /// The packets that taking the oldest item of a place's link brings: reply and
+    /// completion at the tail of a chain, an acknowledgement for an entry.
+    fn sent_by_advancing(&self, place: usize) -> usize {
+        match &self.store {
+            Store::Chain(chain) => 2 * usize::from(chain.is_tail(place)),
+            Store::Quorum(quorum) => match quorum.members()[place].incoming.front() {
+                Some(Item::Entry(_)) => 1,
+                _ => 0,
+            },
+        }
     }
 
     /// Tag 7.
@@ -584,18 +636,19 @@ impl Model {
 
     /// Tag 8.
     fn tell(&mut self, replica: u8) -> Answer {
-        let place = self.chain.place(replica).ok_or(Refusal::NotLive)?;
-        self.chain.tell(place, self.switch.number);
+        let place = self.store.place(replica).ok_or(Refusal::NotLive)?;
+        self.store.tell(place, self.switch.number);
         Ok(None)
     }
 
-    /// Tag 9. Order 9, 12.
+    /// Tag 9. Order 23, 9, 12.
     fn remove(&mut self, replica: u8) -> Answer {
-        let place = self.chain.place(replica).ok_or(Refusal::NotLive)?;
-        if self.chain.live().len() == 1 {
+        let chain = self.store.chain_mut().ok_or(Refusal::NotInThisStore)?;
+        let place = chain.place(replica).ok_or(Refusal::NotLive)?;
+        if chain.live().len() == 1 {
             return Err(Refusal::OnlyOneLive);
         }
-        self.chain.remove(place);
+        chain.remove(place);
         Ok(None)
     }
 
@@ -607,25 +660,44 @@ impl Model {
         Ok(None)
     }
 
-    /// Tag 12. Order 17, 18.
+    /// Tag 12. Order 23, 17, 18.
     fn join(&mut self) -> Answer {
-        let full = self.chain.live().len() >= usize::from(REPLICAS);
-        if full || self.chain.given() == LAST_NUMBER {
+        let chain = self.store.chain_mut().ok_or(Refusal::NotInThisStore)?;
+        let full = chain.live().len() >= usize::from(REPLICAS);
+        if full || chain.given() == LAST_NUMBER {
             return Err(Refusal::NoNewcomer);
         }
-        if self.chain.newcomer().is_some() {
+        if chain.newcomer().is_some() {
             return Err(Refusal::JoinUnderWay);
         }
-        self.chain.begin_join();
+        chain.begin_join();
         Ok(None)
     }
 
-    /// Tag 13.
+    /// Tag 13. Order 23, 19.
     fn copy(&mut self) -> Answer {
-        if self.chain.newcomer().is_none() {
+        let chain = self.store.chain_mut().ok_or(Refusal::NotInThisStore)?;
+        if chain.newcomer().is_none() {
             return Err(Refusal::NoJoin);
         }
-        self.chain.copy();
+        chain.copy();
+        Ok(None)
+    }
+
+    /// Tag 14. Order 23, 24, 6.
+    fn execute(&mut self) -> Answer {
+        let Store::Quorum(quorum) = &mut self.store else {
+            return Err(Refusal::NotInThisStore);
+        };
+        if !quorum.may_execute() {
+            return Err(Refusal::NoneToExecute);
+        }
+        if self.waiting.len() + 2 > FULL {
+            return Err(Refusal::TooManyWaiting);
+        }
+        if let Some(write) = quorum.execute() {
+            self.done(write);
+        }
         Ok(None)
     }
 }
@@ -667,28 +739,36 @@ impl Model {
         if object >= OBJECTS {
             return None;
         }
-        Some(self.chain.replica(replica)?.held(object))
+        Some(self.store.held(self.store.place(replica)?, object))
     }
 
-    /// The live replicas in chain order.
+    /// The live replicas in chain order, or the leader and its followers.
     pub fn live(&self) -> impl ExactSizeIterator<Item = u8> + '_ {
-        self.chain.live().iter().map(|r| r.name)
+        (0..self.store.live()).map(|place| self.store.name(place))
     }
 
-    /// The writes in the link that comes in to a live replica, oldest first.
+    /// The writes in the link that comes in to a live replica of a chain, oldest
+    /// first.
     pub fn incoming(&self, replica: u8) -> impl ExactSizeIterator<Item = Write> + '_ {
-        let link = self.chain.replica(replica).map(|r| r.incoming.iter());
+        let chain = self.store.chain();
+        let link = chain.and_then(|chain| Some(chain.replica(replica)?.incoming.iter()));
         link.unwrap_or_default().copied()
+    }
+
+    /// How many writes, or items, the link that comes in to a live replica holds.
+    pub fn coming(&self, replica: u8) -> usize {
+        let place = self.store.place(replica);
+        place.map_or(0, |place| self.store.coming(place))
     }
 
     /// The switch number that a live replica permits.
     pub fn permits(&self, replica: u8) -> Option<u16> {
-        Some(self.chain.replica(replica)?.permits)
+        Some(self.store.permits(self.store.place(replica)?))
     }
 
-    /// How many writes all links hold.
+    /// How many writes, or items, all links hold.
     pub fn linked(&self) -> usize {
-        self.chain.linked()
+        self.store.linked()
     }
 
     /// The present switch's number.
@@ -718,17 +798,23 @@ impl Model {
 
     /// The last number given to a replica, live or not.
     pub fn given(&self) -> u8 {
-        self.chain.given()
+        let chain = self.store.chain();
+        chain.map_or(self.store.live() as u8, Chain::given)
+    }
+
+    /// The newcomer of a chain, while a join is under way.
+    fn joining(&self) -> Option<&Newcomer> {
+        self.store.chain()?.newcomer()
     }
 
     /// The newcomer's number, if a join is under way.
     pub fn newcomer(&self) -> Option<u8> {
-        self.chain.newcomer().map(|n| n.name())
+        self.joining().map(Newcomer::name)
     }
 
     /// The objects below this one are copied to the newcomer; 0 without a join.
     pub fn copied(&self) -> u16 {
-        self.chain.newcomer().map_or(0, |n| n.copied())
+        self.joining().map_or(0, Newcomer::copied)
     }
 
     /// Value and stamp of an object at the newcomer, if a join is under way.
@@ -736,13 +822,14 @@ impl Model {
         if object >= OBJECTS {
             return None;
         }
-        self.chain.newcomer().map(|n| n.held(object))
+        self.joining().map(|n| n.held(object))
     }
 
     /// Puts other things in the place of what the newcomer holds of an object,
     /// for a program that is wrong on purpose. No step does this.
     pub fn falsify_newcomer(&mut self, object: u16, held: Held) {
-        if let (Some(newcomer), true) = (self.chain.newcomer_mut(), object < OBJECTS) {
+        let newcomer = self.store.chain_mut().and_then(Chain::newcomer_mut);
+        if let (Some(newcomer), true) = (newcomer, object < OBJECTS) {
             newcomer.falsify(object, held);
         }
     }
@@ -762,13 +849,75 @@ impl Model {
     }
 }
 
+/// What can be seen of a quorum store; nothing of a chain.
+impl Model {
+    /// Is this a leader with followers?
+    pub fn is_quorum(&self) -> bool {
+        self.store.quorum().is_some()
+    }
+
+    /// The stamp up to which a replica has executed.
+    pub fn executed(&self, replica: u8) -> Option<Stamp> {
+        Some(self.store.quorum()?.member(replica)?.executed)
+    }
+
+    /// The items of the link that comes in to a follower, oldest first.
+    pub fn items(&self, replica: u8) -> impl ExactSizeIterator<Item = Item> + '_ {
+        let quorum = self.store.quorum();
+        let link = quorum.and_then(|quorum| Some(quorum.member(replica)?.incoming.iter()));
+        link.unwrap_or_default().copied()
+    }
+
+    /// How many entries a replica has logged.
+    pub fn logged(&self, replica: u8) -> u64 {
+        let logged = self.store.quorum().and_then(|q| q.logged(replica));
+        logged.map_or(0, |(logged, _)| logged)
+    }
+
+    /// How many entries of a follower the leader has heard of.
+    pub fn acknowledged(&self, replica: u8) -> u64 {
+        let logged = self.store.quorum().and_then(|q| q.logged(replica));
+        logged.map_or(0, |(_, acknowledged)| acknowledged)
+    }
+
+    /// How many entries the leader has logged and not executed.
+    pub fn unexecuted(&self) -> usize {
+        self.store.quorum().map_or(0, Quorum::unexecuted)
+    }
+
+    /// Is a stamp above the last that the leader has logged?
+    pub fn is_above_the_log(&self, stamp: Stamp) -> bool {
+        self.store.quorum().is_some_and(|q| q.is_above(stamp))
+    }
+
+    /// How many replicas hold the next entry to execute, for all the leader knows.
+    pub fn holders(&self) -> Option<usize> {
+        self.store.quorum()?.holders()
+    }
+
+    /// How many replicas are a majority.
+    pub fn majority(&self) -> usize {
+        self.store.quorum().map_or(0, Quorum::majority)
+    }
+
+    /// Does a link to a follower hold 64 items?
+    pub fn link_full(&self) -> bool {
+        self.store.quorum().is_some_and(Quorum::link_full)
+    }
+
+    /// Does the leader have an entry to execute, so that tag 14 is not refused by 24?
+    pub fn may_execute(&self) -> bool {
+        self.store.quorum().is_some_and(Quorum::may_execute)
+    }
+}
+
 /// States that no file reaches.
 #[cfg(test)]
 impl Model {
     /// A start after which this is the last operation number given and the
     /// switch's counter, for tests only.
     pub fn start_for_tests(n: u8, begun: u32, counter: u32) -> Model {
-        let mut model = Model::start(n).expect("n from 1 to 8");
+        let mut model = Model::start(Start::Chain { replicas: n }).expect("n from 1 to 8");
         model.begun = begun;
         model.switch.set_counter_for_tests(counter);
         model

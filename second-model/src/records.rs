@@ -1,10 +1,10 @@
 //! Records: "a one-byte tag, a two-byte length, the content" (document 01;
-//! document 02, Req 02, Req 04 and Req 07).
+//! document 02, Req 02, Req 04, Req 07 and Req 11).
 //!
 //! A give-up has four bytes for its operation. Those with two are still read and
 //! mean the same number, but are not written.
 
-use crate::model::{Objects, Refusal, Step, MOST};
+use crate::model::{Objects, Refusal, Start, Step, MOST};
 
 /// The longest record: a read of eight objects.
 pub const LONGEST: usize = 3 + 2 * MOST;
@@ -12,7 +12,7 @@ pub const LONGEST: usize = 3 + 2 * MOST;
 /// One record of a file: the start, or a step after it.
 #[derive(Clone, Copy, Debug, PartialEq, Eq)]
 pub enum Record {
-    Start { replicas: u8 },
+    Start(Start),
     Step(Step),
 }
 
@@ -59,7 +59,8 @@ fn two(high: u8, low: u8) -> u16 {
 /// What tag and content say, by the table of "Steps and their records".
 fn meaning(tag: u8, content: &[u8]) -> Option<Record> {
     let step = match (tag, content) {
-        (32, &[replicas]) => return Some(Record::Start { replicas }),
+        (32, &[replicas]) => return Some(Record::Start(Start::Chain { replicas })),
+        (33, &[replicas]) => return Some(Record::Start(Start::Quorum { replicas })),
         (1, &[a, b]) => Step::Read { object: two(a, b) },
         (2, &[a, b, c, d, e, f]) => Step::Write {
             object: two(a, b),
@@ -90,6 +91,7 @@ fn meaning(tag: u8, content: &[u8]) -> Option<Record> {
         },
         (12, &[]) => Step::Join,
         (13, &[]) => Step::Copy,
+        (14, &[]) => Step::Execute,
         _ => return None,
     };
     Some(Record::Step(step))
@@ -124,7 +126,8 @@ fn context(objects: Objects) -> Result<LaidOut, Refusal> {
 fn laid_out(record: Record) -> Result<LaidOut, Refusal> {
     let pair = |tag, number: u16| tagged(tag, &number.to_be_bytes());
     let step = match record {
-        Record::Start { replicas } => return Ok(tagged(32, &[replicas])),
+        Record::Start(Start::Chain { replicas }) => return Ok(tagged(32, &[replicas])),
+        Record::Start(Start::Quorum { replicas }) => return Ok(tagged(33, &[replicas])),
         Record::Step(step) => step,
     };
     Ok(match step {
@@ -148,6 +151,7 @@ fn laid_out(record: Record) -> Result<LaidOut, Refusal> {
         Step::Context { objects } => context(objects)?,
         Step::Join => tagged(12, &[]),
         Step::Copy => tagged(13, &[]),
+        Step::Execute => tagged(14, &[]),
     })
 }
 
@@ -237,10 +241,11 @@ pub fn pieces(file: &[u8]) -> Vec<&[u8]> {
 mod tests {
     use super::*;
 
-    fn all() -> [(Record, &'static [u8]); 18] {
+    fn all() -> [(Record, &'static [u8]); 20] {
         let step = Record::Step;
         [
-            (Record::Start { replicas: 8 }, &[32, 0, 1, 8]),
+            (Record::Start(Start::Chain { replicas: 8 }), &[32, 0, 1, 8]),
+            (Record::Start(Start::Quorum { replicas: 4 }), &[33, 0, 1, 4]),
             (step(Step::Read { object: 1023 }), &[1, 0, 2, 3, 255]),
             (
                 step(Step::Write {
@@ -275,6 +280,7 @@ mod tests {
             ),
             (step(Step::Join), &[12, 0, 0]),
             (step(Step::Copy), &[13, 0, 0]),
+            (step(Step::Execute), &[14, 0, 0]),
         ]
     }
 
@@ -324,14 +330,14 @@ mod tests {
     }
 
     #[test]
-    fn only_fourteen_tags_are_known() {
+    fn only_sixteen_tags_are_known() {
         for tag in 0..=255u8 {
             let known = (0..10u8).any(|length| {
                 let mut file = vec![tag, 0, length];
                 file.resize(12, 1);
                 read(&file).is_some()
             });
-            assert_eq!(known, (1..=13).contains(&tag) || tag == 32);
+            assert_eq!(known, (1..=14).contains(&tag) || [32, 33].contains(&tag));
         }
     }
 

@@ -1,5 +1,5 @@
 //! What the run program prints (document 01, section of that name; document
-//! 02, Req 01, Req 02, Req 07 and Req 10).
+//! 02, Req 01, Req 02, Req 07, Req 10 and Req 11).
 
 use crate::model::{Answer, Finished, Model, Refusal, Step};
 use crate::records::{Reader, Record};
@@ -24,7 +24,7 @@ pub fn walk(input: &[u8], show: impl FnMut(usize, Outcome)) {
 }
 
 /// Runs an input with steps made in this way.
-fn walk_by(
+pub fn walk_by(
     input: &[u8],
     make: impl FnMut(&mut Model, Step) -> Answer,
     mut show: impl FnMut(usize, Outcome),
@@ -57,10 +57,10 @@ fn walk_on(
     }
 }
 
-/// The first record must be a start, and its n from 1 to 8.
+/// The first record must be a start, and its numbers such as it takes.
 fn started(reader: &mut Reader) -> Result<Model, Refusal> {
     match reader.next() {
-        Some(Ok(Record::Start { replicas })) => Model::start(replicas),
+        Some(Ok(Record::Start(start))) => Model::start(start),
         _ => Err(Refusal::BadRecord),
     }
 }
@@ -221,6 +221,23 @@ mod tests {
         let start = "1 ok 0 0 - - -\n2 no 19\n3 ok 0 0 - - -\n4 no 18\n";
         let lines = format!("{start}{}7 no 9\n{}24 no 19\n", plain(5..=6), plain(8..=23));
         assert_eq!(text(&input), lines);
+    }
+
+    /// A write through a leader and one of two followers, and a read that the other
+    /// follower sends on.
+    #[test]
+    fn lines_of_a_quorum() {
+        let input = file(
+            "start-quorum 3; write 5 9; 2 * deliver 0; execute; advance 2; deliver 0; execute; \
+             2 * deliver 0; read 5; deliver 0 2; 3 * deliver 0; remove 3",
+        );
+        let lines = "1 ok 0 0 - - -\n2 ok 1 0 - - -\n3 ok 1 1 - - -\n4 ok 0 1 - - -\n5 no 24\n\
+                     6 ok 1 1 - - -\n7 ok 0 1 - - -\n8 ok 2 1 - - -\n9 ok 1 1 1 9 -\n\
+                     10 ok 0 0 - - -\n11 ok 1 0 - - -\n12 ok 1 0 - - -\n13 ok 1 0 - - -\n\
+                     14 ok 1 0 - - -\n15 ok 0 0 2 9 -\n16 no 23\n";
+        assert_eq!(text(&input), lines);
+        assert_eq!(text(&[33, 0, 1, 4, 1]), "1 no 2\n");
+        assert_eq!(text(&[33, 0, 2, 3, 3]), "1 no 1\n");
     }
 
     /// What is printed for some records after a start with 4,294,967,294

@@ -3,7 +3,7 @@
 pub mod built;
 pub mod climb;
 
-use crate::model::{Model, Refusal, Step};
+use crate::model::{Model, Refusal, Start, Step};
 use crate::records::{read, Record};
 use crate::run::INPUT_LONGEST;
 
@@ -24,21 +24,20 @@ type Kept<'a> = (Step, &'a [u8]);
 
 /// A run whose last record is refused by its step, as far as it is kept.
 pub struct Shortening<'a> {
-    replicas: u8,
-    start: &'a [u8],
+    start: (Start, &'a [u8]),
     between: Vec<Kept<'a>>,
     last: Kept<'a>,
     refusal: Refusal,
     work: Work,
 }
 
-/// The start of an input: its n and its bytes. Refused by 1 or 2.
-fn read_start(input: &[u8]) -> Result<(u8, &[u8]), Refusal> {
-    let Some((Record::Start { replicas }, size)) = read(input) else {
+/// The start of an input and its bytes. Refused by 1 or 2.
+fn read_start(input: &[u8]) -> Result<(Start, &[u8]), Refusal> {
+    let Some((Record::Start(start), size)) = read(input) else {
         return Err(Refusal::BadRecord);
     };
-    Model::start(replicas)?;
-    Ok((replicas, &input[..size]))
+    Model::start(start)?;
+    Ok((start, &input[..size]))
 }
 
 /// The steps behind the start. Refused by 1.
@@ -56,8 +55,8 @@ fn read_steps(mut rest: &[u8]) -> Result<Vec<Kept<'_>>, Refusal> {
 }
 
 /// What the last of some steps after a start is refused by, if it is.
-fn last_refusal(replicas: u8, steps: impl Iterator<Item = Step>) -> Option<Refusal> {
-    let mut model = Model::start(replicas).ok()?;
+fn last_refusal(start: Start, steps: impl Iterator<Item = Step>) -> Option<Refusal> {
+    let mut model = Model::start(start).ok()?;
     let mut answer = Ok(None);
     for step in steps {
         answer = model.step(step);
@@ -72,17 +71,16 @@ impl<'a> Shortening<'a> {
         if input.len() > INPUT_LONGEST {
             return Err(Refusal::InputTooLong);
         }
-        let (replicas, start) = read_start(input)?;
-        let mut between = read_steps(&input[start.len()..])?;
+        let start = read_start(input)?;
+        let mut between = read_steps(&input[start.1.len()..])?;
         if 1 + between.len() > MOST_RECORDS {
             return Err(Refusal::TooManyRecords);
         }
-        let refusal = last_refusal(replicas, between.iter().map(|&(step, _)| step));
+        let refusal = last_refusal(start.0, between.iter().map(|&(step, _)| step));
         let (Some(refusal), Some(last)) = (refusal, between.pop()) else {
             return Err(Refusal::LastNotRefused);
         };
         Ok(Shortening {
-            replicas,
             start,
             between,
             last,
@@ -101,7 +99,7 @@ impl<'a> Shortening<'a> {
     pub fn drop(&mut self, place: usize) -> bool {
         let (before, after) = (&self.between[..place], &self.between[place + 1..]);
         let others = before.iter().chain(after).chain([&self.last]);
-        let refusal = last_refusal(self.replicas, others.map(|&(step, _)| step));
+        let refusal = last_refusal(self.start.0, others.map(|&(step, _)| step));
         self.work.trials += 1;
         self.work.steps += self.between.len();
         let stands = refusal == Some(self.refusal);
@@ -131,7 +129,7 @@ impl<'a> Shortening<'a> {
     fn file(&self) -> Vec<u8> {
         let between = self.between.iter().chain([&self.last]);
         let records = between.map(|&(_, record)| record);
-        let all: Vec<&[u8]> = std::iter::once(self.start).chain(records).collect();
+        let all: Vec<&[u8]> = std::iter::once(self.start.1).chain(records).collect();
         all.concat()
     }
 }

@@ -1,13 +1,14 @@
 //! Record files in words: steps with `;` between them, such as
 //! `start 2; write 5 9; 2 * deliver 0`, for examples and for reports.
 
-use crate::model::Step;
+use crate::model::{Start, Step};
 use crate::records::{append, append_in_two_bytes, given_up_in_two_bytes, read, Record};
 
 /// The record file that some words say. `N * step` and `N * (step; step)` are
 /// done N times, `each A to B by C (step; step)` is done for A, A + C and so on up
 /// to B, with the number for each `#`, `deliver P` has choice 0, `read` with
-/// several objects is a read of a context, `give up N in two bytes` is the give-up
+/// several objects is a read of a context, `start-quorum N` is a leader with
+/// followers, `execute` is tag 14, `give up N in two bytes` is the give-up
 /// with length 2, `bytes B ...` are raw bytes, and `fill L` puts zeros up to
 /// length L.
 ///
@@ -85,7 +86,8 @@ fn record(phrase: &str) -> Record {
     let verb = words.next().unwrap_or_default();
     let fields: Vec<u32> = words.map(number).collect();
     let step = match (verb, fields.as_slice()) {
-        ("start", &[n]) => return Record::Start { replicas: n as u8 },
+        ("start", &[n]) => return Record::Start(Start::Chain { replicas: n as u8 }),
+        ("start-quorum", &[n]) => return Record::Start(Start::Quorum { replicas: n as u8 }),
         ("write", &[object, value]) => Step::Write {
             object: object as u16,
             value,
@@ -99,6 +101,7 @@ fn record(phrase: &str) -> Record {
         },
         ("join", &[]) => Step::Join,
         ("copy", &[]) => Step::Copy,
+        ("execute", &[]) => Step::Execute,
         (verb, &[field]) => with_one_field(verb, field),
         _ => panic!("no step: {phrase:?}"),
     };
@@ -128,7 +131,7 @@ fn with_one_field(verb: &str, field: u32) -> Step {
 /// One piece of a record file in words.
 pub fn describe(piece: &[u8]) -> String {
     let step = match read(piece) {
-        Some((Record::Start { replicas }, _)) => return format!("start {replicas}"),
+        Some((Record::Start(start), _)) => return describe_start(start),
         Some((Record::Step(step), _)) => step,
         None => {
             let bytes: Vec<String> = piece.iter().map(u8::to_string).collect();
@@ -155,6 +158,15 @@ pub fn describe(piece: &[u8]) -> String {
         }
         Step::Join => "join".to_string(),
         Step::Copy => "copy".to_string(),
+        Step::Execute => "execute".to_string(),
+    }
+}
+
+/// A start in words.
+fn describe_start(start: Start) -> String {
+    match start {
+        Start::Chain { replicas } => format!("start {replicas}"),
+        Start::Quorum { replicas } => format!("start-quorum {replicas}"),
     }
 }
 
@@ -209,7 +221,7 @@ mod tests {
                      advance 8; replace 9; tell 10; remove 11; give up 12; read 14 13; \
                      give up 12 in two bytes; give up 65536; give up 65535 in two bytes; \
                      read 22 21 20 19 18 17 16 15; join; copy; bytes 11 0 2 0 5; \
-                     bytes 12 0 1 0; bytes 1 2";
+                     bytes 12 0 1 0; start-quorum 5; execute; bytes 14 0 1 0; bytes 1 2";
         let made = file(words);
         let told: Vec<String> = pieces(&made).into_iter().map(describe).collect();
         assert_eq!(told.join("; "), words);

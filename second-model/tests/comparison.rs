@@ -27,7 +27,7 @@ fn text(output: &Output) -> String {
 #[test]
 fn no_difference_with_itself() {
     let own = env!("CARGO_BIN_EXE_second-run");
-    let run = compare(own, &["--files", "120", "--small", "40", "--seed", "5"]);
+    let run = compare(own, &["--files", "217", "--small", "40", "--seed", "5"]);
     let text = text(&run);
     assert_eq!(run.status.code(), Some(0), "{text}");
     assert!(text.starts_with("seed 5\n"));
@@ -47,6 +47,15 @@ fn no_difference_with_itself() {
         "give-up 2, no 13",
         "give-up 4, ok",
         "give-up 4, no 13",
+        "lagging, answered",
+        "quorum, sent on",
+        "exact majority",
+        "24, no majority",
+        "24, full link",
+        "drop, full log",
+        "drop, full link",
+        "no 23",
+        "no 24",
     ];
     for word in answers {
         let (_, after) = text.split_once(&format!("\n{word}  ")).unwrap();
@@ -54,7 +63,7 @@ fn no_difference_with_itself() {
         assert_ne!(times, "0", "{word}");
     }
     let last = text.lines().last().unwrap();
-    assert!(last.starts_with("compared 120 files, "), "{last}");
+    assert!(last.starts_with("compared 217 files, "), "{last}");
     assert!(last.contains(" 0 differences; orders found for 40 small runs"));
 }
 
@@ -276,9 +285,10 @@ fn a_wrong_completion_leaves_an_order() {
     let folder = PathBuf::from(env!("CARGO_TARGET_TMPDIR"));
     let path = folder.join("small-completions.records");
     let program = Path::new(env!("CARGO_BIN_EXE_wrong-completion-run"));
+    let chains = &SMALL[..3];
     let mut differ = 0;
     for seed in 0..900 {
-        let kind = SMALL[seed as usize % SMALL.len()];
+        let kind = chains[seed as usize % chains.len()];
         let input = generate(kind, seed, 700).unwrap();
         let found = |lines: &[u8]| find_order(&history(&input, lines).unwrap()).is_some();
         let (ours, theirs) = (output(&input), printed(program, &input, &path).unwrap());
@@ -287,6 +297,87 @@ fn a_wrong_completion_leaves_an_order() {
     }
     println!("{differ} of 900 small runs differ");
     assert!(differ >= 3, "{differ}");
+}
+
+/// How many of the small quorum runs of some seeds a program prints otherwise than
+/// this model, and how many of its have no order; this model's all have one.
+fn small_quorum_runs(program: &str, name: &str, seeds: std::ops::Range<u64>) -> (usize, usize) {
+    let path = PathBuf::from(env!("CARGO_TARGET_TMPDIR")).join(name);
+    let (mut differ, mut without) = (0, 0);
+    for seed in seeds {
+        let input = generate("small-quorum", seed, 700).unwrap();
+        let found = |lines: &[u8]| find_order(&history(&input, lines).unwrap()).is_some();
+        let ours = output(&input);
+        let theirs = printed(Path::new(program), &input, &path).unwrap();
+        assert!(found(&ours), "seed {seed}");
+        differ += usize::from(ours != theirs);
+        without += usize::from(!found(&theirs));
+    }
+    println!("{name}: {differ} differ, {without} have no order");
+    (differ, without)
+}
+
+/// In a quorum store the order does rest on Req 10: a stored example has none with the
+/// wrong program. Small runs differ too.
+#[test]
+fn a_wrong_completion_leaves_a_quorum_run_without_an_order() {
+    let program = env!("CARGO_BIN_EXE_wrong-completion-run");
+    let path = PathBuf::from(env!("CARGO_TARGET_TMPDIR")).join("completion-quorum");
+    let name = "former-switch-s-completion-over-a-quorum";
+    let example = all().into_iter().find(|e| e.name == name).unwrap();
+    let theirs = printed(Path::new(program), &example.input, &path).unwrap();
+    let found = |lines: &[u8]| find_order(&history(&example.input, lines).unwrap());
+    assert!(found(&output(&example.input)).is_some());
+    assert_eq!(found(&theirs), None);
+    let (differ, _) = small_quorum_runs(program, "small-completion-quorum.records", 0..300);
+    assert!(differ >= 5, "{differ}");
+}
+
+/// A replica of a quorum store that looks at the objects' stamps answers where it
+/// should send a read on: the read has another end.
+#[test]
+fn a_wrong_quorum_is_found_and_the_file_shortened() {
+    let kept = difference(env!("CARGO_BIN_EXE_wrong-quorum-run"), "wrong-quorum");
+    let tags: Vec<u8> = pieces(&kept.short).into_iter().map(|p| p[0]).collect();
+    let count = |tag| tags.iter().filter(|&&t| t == tag).count();
+    assert_eq!(tags[0], 33);
+    assert!(count(2) >= 1 && count(14) >= 1 && count(1) + count(11) >= 1);
+    assert_ne!(kept.ours.lines().last(), kept.theirs.lines().last());
+    // A start, a write, an advance, an execution, a read and seven deliveries have 67
+    // bytes.
+    let length = kept.short.len();
+    assert!((67..1000).contains(&length), "{length} bytes");
+}
+
+/// The stored examples about followers that lag notice it, those about chains do not.
+#[test]
+fn a_wrong_quorum_is_seen_in_the_examples() {
+    let path = PathBuf::from(env!("CARGO_TARGET_TMPDIR")).join("quorum.records");
+    let program = Path::new(env!("CARGO_BIN_EXE_wrong-quorum-run"));
+    let examples = all().into_iter();
+    let seen = examples.filter(|e| output(&e.input) != printed(program, &e.input, &path).unwrap());
+    let seen: Vec<(String, u8)> = seen.map(|e| (e.name, e.input[0])).collect();
+    assert!(seen.iter().all(|(_, tag)| *tag == 33));
+    let seen: Vec<&str> = seen.iter().map(|(name, _)| name.as_str()).collect();
+    for name in [
+        "direct-read-at-a-follower-that-has-not",
+        "direct-read-of-an-object-never-written-is-sent-on",
+        "context-sent-on-by-a-lagging-follower",
+        "direct-read-answered-with-a-later-write",
+        "lagging-follower-answers-once-and-sends-on-once",
+    ] {
+        assert!(seen.contains(&name), "{name} not among {seen:?}");
+    }
+    assert!(!seen.contains(&"direct-read-at-a-follower-that-has-executed"));
+    assert!(!seen.contains(&"lagging-follower-answers"));
+}
+
+/// The wrong program's small runs do not all have an order; this model's have.
+#[test]
+fn a_wrong_quorum_leaves_a_small_run_without_an_order() {
+    let program = env!("CARGO_BIN_EXE_wrong-quorum-run");
+    let (differ, without) = small_quorum_runs(program, "wrong-quorum.records", 0..300);
+    assert!(differ >= 20 && without >= 10, "{differ}, {without}");
 }
 
 #[test]

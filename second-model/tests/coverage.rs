@@ -1,7 +1,8 @@
 //! The random files reach every rule of document 01 and each way it drops, reads
 //! of every age in many situations (document 02, Req 01), reads of contexts in as
-//! many (Req 02), joins (Req 04), give-ups of both lengths (Req 07), and completions
-//! of former switches (Req 10); and how far drawn runs get (Req 08).
+//! many (Req 02), joins (Req 04), give-ups of both lengths (Req 07), completions of
+//! former switches (Req 10), and quorum stores (Req 11); and how far drawn runs get
+//! (Req 08).
 
 #[path = "coverage/ages.rs"]
 mod ages;
@@ -15,6 +16,8 @@ mod draws;
 mod give_ups;
 #[path = "coverage/joins.rs"]
 mod joins;
+#[path = "coverage/quorums.rs"]
+mod quorums;
 
 use ages::Ages;
 use completions::Completions;
@@ -75,8 +78,8 @@ type Seen = BTreeMap<&'static str, usize>;
 fn comparison() -> Task {
     Task {
         program: PathBuf::new(),
-        files: 2000,
-        small: 500,
+        files: 2600,
+        small: 680,
         seed: 1,
         keep: PathBuf::new(),
     }
@@ -94,7 +97,8 @@ fn every_rule_and_situation_is_reached() {
     let ages = ages::WANTED.into_iter().chain(contexts::WANTED);
     let joins = joins::WANTED.into_iter().chain(give_ups::WANTED);
     let all = rules.chain([RARE]).chain(ages).chain(joins);
-    for (event, least) in all.chain(completions::WANTED) {
+    let all = all.chain(completions::WANTED).chain(quorums::WANTED);
+    for (event, least) in all {
         let times = seen.get(event).copied().unwrap_or(0);
         println!("{event:<56} {times:>9}");
         if times < least {
@@ -275,12 +279,39 @@ fn watch(file: &[u8], seen: &mut Seen) {
         return;
     }
     let mut reader = Reader::new(file);
-    let Some(Ok(Record::Start { replicas })) = reader.next() else {
+    let Some(Ok(Record::Start(start))) = reader.next() else {
         return;
     };
-    let Ok(mut model) = Model::start(replicas) else {
+    let Ok(model) = Model::start(start) else {
         return;
     };
+    match model.is_quorum() {
+        true => watch_quorum(model, reader, seen),
+        false => watch_chain(model, reader, file, seen),
+    }
+}
+
+/// The same for a leader with followers.
+fn watch_quorum(mut model: Model, reader: Reader, seen: &mut Seen) {
+    let mut completions = Completions::default();
+    for record in reader {
+        let Ok(Record::Step(step)) = record else {
+            return;
+        };
+        let mut events = quorums::before(&model, step);
+        events.extend(completions.before(&model, step));
+        let answer = model.step(step);
+        events.extend(quorums::after(&model, step, answer));
+        events.extend(completions.after(&model, step, answer));
+        assert!(model.counter() <= model.begun(), "a counter runs ahead");
+        for event in events {
+            *seen.entry(event).or_default() += 1;
+        }
+    }
+}
+
+/// The same for a chain.
+fn watch_chain(mut model: Model, reader: Reader, file: &[u8], seen: &mut Seen) {
     let mut ages = Ages::default();
     let mut contexts = Contexts::default();
     let mut joins = Joins::default();
@@ -295,6 +326,7 @@ fn watch(file: &[u8], seen: &mut Seen) {
         events.extend(contexts.before(&model, step));
         events.extend(joins.before(&model, step));
         events.extend(completions.before(&model, step));
+        events.extend(quorums::before(&model, step));
         let waiting = model.waiting();
         let answer = model.step(step);
         let late = match early {
@@ -307,6 +339,7 @@ fn watch(file: &[u8], seen: &mut Seen) {
         events.extend(contexts.after(&model, step, answer));
         events.extend(give_ups.after(&model, step, piece, answer));
         events.extend(completions.after(&model, step, answer));
+        events.extend(quorums::after(&model, step, answer));
         joins.after(&model, step, answer);
         assert!(model.counter() <= model.begun(), "a counter runs ahead");
         for event in events {
@@ -374,6 +407,7 @@ fn delivery(model: &Model, packet: Packet) -> Option<&'static str> {
             "completion: older switch"
         }
         Packet::Completion { .. } => "completion: present switch",
+        Packet::Acknowledgement { .. } => return None,
         Packet::Reply { values, .. } if values.count() > 1 => return None,
         Packet::Reply { operation, .. } if model.is_open(operation) => "reply: finishes",
         Packet::Reply { .. } => "reply: ignored",

@@ -3,10 +3,10 @@
 
 mod raw;
 
-use raw::{Packet, Session, CHAIN, OPENS, PLACES, STORE, SWITCH};
+use raw::{Packet, Session, CHAIN, OPENS, PLACES, POSITIONS, STORE, SWITCH};
 
-/// The fewest bytes that a record has (tags 12 and 13, which have no content), the
-/// most that a record, a line and an input have, and room for the output of any
+/// The fewest bytes that a record has (tags 12, 13 and 14, which have no content),
+/// the most that a record, a line and an input have, and room for the output of any
 /// input, which has 21,845 records at the most.
 pub const SHORTEST_RECORD: usize = 3;
 pub const LONGEST_RECORD: usize = 19;
@@ -66,8 +66,8 @@ impl std::fmt::Debug for Values {
 }
 
 /// What a finished read says, if its object had a counting mark when the switch
-/// sent it to the tail: `Old` if the stamp of its value is below the mark's, `New`
-/// if not. `None` for every other read, that of a whole context too, and for a write.
+/// sent it to the tail, or to the leader of a quorum store: `Old` if the stamp of
+/// its value is below the mark's, `New` if not. `None` for every other read, that of a whole context too, and for a write.
 #[derive(Clone, Copy, Debug, PartialEq, Eq)]
 pub enum Freshness {
     None,
@@ -88,7 +88,8 @@ impl Freshness {
 }
 
 /// The replicas that there are: the numbers of the live ones, the head's first, and
-/// the one that joins, which is not live.
+/// the one that joins, which is not live. Of a quorum store these are all its
+/// replicas, the leader's number first, and none joins.
 #[derive(Clone, Debug, PartialEq, Eq)]
 pub struct Chain {
     pub live: Vec<u8>,
@@ -103,7 +104,18 @@ pub struct Newcomer {
     pub copies: u8,
 }
 
-/// A store of replicas behind a switch, with the memory that the library works in.
+/// How far a replica of a quorum store is: the entries that it has logged, those of
+/// them that it has executed, and those that the leader knows it to have
+/// acknowledged (0 for the leader itself, which needs none).
+#[derive(Clone, Copy, Debug, PartialEq, Eq)]
+pub struct Positions {
+    pub logged: u32,
+    pub executed: u32,
+    pub acknowledged: u32,
+}
+
+/// A store of replicas behind a switch, a chain or a leader with followers, with the
+/// memory that the library works in.
 #[derive(Clone)]
 pub struct Model(Box<Lent>);
 
@@ -120,9 +132,15 @@ struct Lent {
 }
 
 impl Model {
-    /// An empty store of `n` replicas, numbered from 1, or refusal 2.
+    /// An empty chain of `n` replicas, 1 to 8, numbered from 1, or refusal 2.
     pub fn start(n: u8) -> Result<Model, u8> {
-        Model::start_record(&start_of(n))
+        Model::start_record(&start_of(CHAIN_START, n))
+    }
+
+    /// An empty quorum store of `n` replicas, 3, 5 or 7, or refusal 2: replica 1 is
+    /// the leader, the others are its followers.
+    pub fn start_quorum(n: u8) -> Result<Model, u8> {
+        Model::start_record(&start_of(QUORUM_START, n))
     }
 
     /// An empty store as a start record has it, or refusal 1 where the bytes are not
@@ -134,10 +152,15 @@ impl Model {
         model.restart_record(record).map(|()| model)
     }
 
-    /// An empty store of `n` replicas in place of this one, or refusal 2, which
+    /// An empty chain of `n` replicas in place of this store, or refusal 2, which
     /// leaves this one to go on.
     pub fn restart(&mut self, n: u8) -> Result<(), u8> {
-        self.restart_record(&start_of(n))
+        self.restart_record(&start_of(CHAIN_START, n))
+    }
+
+    /// The same, for a quorum store.
+    pub fn restart_quorum(&mut self, n: u8) -> Result<(), u8> {
+        self.restart_record(&start_of(QUORUM_START, n))
     }
 
     /// The same by a start record. Refusal 1 or 2, as of `start_record`, leaves this
@@ -163,7 +186,9 @@ impl Model {
 
     /// The step of one record. Refusals of joins: tag 12 by 17 where eight replicas
     /// are live or number 255 has been given, then by 18 where a join is under way;
-    /// tag 13 by 19 where none is.
+    /// tag 13 by 19 where none is. Of a quorum store: tags 9, 12 and 13 by 23 there, and
+    /// tag 14 by 23 in a chain, before any other but 1; tag 14 by 24 where no write can be
+    /// executed or a link is full, before 6.
     #[inline]
     pub fn step(&mut self, record: &[u8]) -> Answer {
         self.step_within(PLACES, record)
@@ -237,7 +262,8 @@ impl Model {
     /// The value of an object at a replica, by its number, 1 to 255. Only the live
     /// replicas and one that joins hold any: 0 where there is no such replica or
     /// object, and from the step on that removes a replica or ends its join. One that
-    /// joins has an object from the copy of it on, and 0 before.
+    /// joins has an object from the copy of it on, and 0 before. A replica of a quorum
+    /// store holds what it has executed.
     #[inline]
     pub fn value(&self, replica: u8, object: u32) -> u32 {
         unsafe { raw::woldladle_value(self.0.store.as_ptr(), replica, object) }
@@ -264,6 +290,20 @@ impl Model {
         }
     }
 
+    /// How far a replica of a quorum store is, by its number; none where this is a
+    /// chain, or has no such replica.
+    pub fn positions(&self, replica: u8) -> Option<Positions> {
+        let mut told = [0; POSITIONS];
+        let (from, to) = (self.0.store.as_ptr(), told.as_mut_ptr());
+        let found = unsafe { raw::woldladle_positions(from, replica, to) };
+        let [logged, executed, acknowledged] = told;
+        (found != 0).then_some(Positions {
+            logged,
+            executed,
+            acknowledged,
+        })
+    }
+
     /// All that the next step begins with, as bytes: for tests that a refusal
     /// changes nothing.
     pub fn bytes(&self) -> Vec<u8> {
@@ -284,15 +324,20 @@ impl Model {
     }
 }
 
+/// The tags of the starts of a chain and of a quorum store.
+const CHAIN_START: u8 = 32;
+const QUORUM_START: u8 = 33;
+
 /// The record of a start with `n` replicas.
-fn start_of(n: u8) -> [u8; 4] {
-    [32, 0, 1, n]
+fn start_of(tag: u8, n: u8) -> [u8; 4] {
+    [tag, 0, 1, n]
 }
 
 /// Writes the record of a tag with its numbers, 0 for one that it does not
-/// have (tags 12 and 13 have none, and tag 10 takes any operation and is written
-/// with length 4), at the start of `out`: how many bytes it has, or refusal 1 where no such record exists (tag 11 has `write_context`), or 15. A
-/// refusal leaves `out` as it was.
+/// have (tags 12, 13 and 14 have none, and tag 10 takes any operation and is
+/// written with length 4), at the start of `out`: how many bytes it has, or refusal
+/// 1 where no such record exists (tag 11 has `write_context`), or 15. A refusal
+/// leaves `out` as it was.
 #[inline]
 pub fn write_record(tag: u8, first: u32, second: u32, out: &mut [u8]) -> Result<usize, u8> {
     let (to, room) = (out.as_mut_ptr(), out.len());
@@ -316,7 +361,7 @@ pub fn write_context(objects: &[u16], out: &mut [u8]) -> Result<usize, u8> {
     }
 }
 
-/// How many bytes the record of a tag has, from 3 (tags 12 and 13) to 9; 0 for an
+/// How many bytes the record of a tag has, from 3 (tags 12, 13 and 14) to 9; 0 for an
 /// unknown tag and for tag 11, whose record has no fixed length.
 #[inline]
 pub fn record_length(tag: u8) -> usize {
@@ -337,7 +382,7 @@ pub fn run(input: &[u8], out: &mut [u8]) -> usize {
 /// The most steps of a drawn run.
 pub const MOST_STEPS: u64 = 7000;
 
-/// The records of a start with `n` replicas and of so many random steps, the same
+/// The records of a chain's start with `n` replicas and of so many random steps, the same
 /// for the same seed on every machine, at the start of `out`: how many bytes they
 /// have, or refusal 2 where `n` is not 1 to 8, then 20 above `MOST_STEPS`, then 15
 /// where `out` is too short. A refusal leaves `out` as it was, and what is written
@@ -372,6 +417,7 @@ mod tests {
     const DELIVER: [u8; 6] = [3, 0, 3, 0, 0, 0];
     const JOIN: [u8; 3] = [12, 0, 0];
     const COPY: [u8; 3] = [13, 0, 0];
+    const EXECUTE: [u8; 3] = [14, 0, 0];
 
     #[test]
     fn fewer_than_64_places_are_refused_by_15() {
@@ -397,6 +443,7 @@ mod tests {
         for (record, places, refusal) in [
             (&[][..], 63, 1),
             (&[32, 0, 1, 2], 63, 1),
+            (&[33, 0, 1, 3], 63, 1),
             (&BEGIN_A_READ[..4], 0, 1),
             (&[1, 0, 2, 0, 5, 0], 0, 1),
             (&no_such_object, 63, 15),
@@ -407,9 +454,29 @@ mod tests {
             (&[13, 0, 1, 0], 63, 1),
             (&COPY, 63, 15),
             (&COPY, 64, 19),
+            (&[14, 0, 1, 0], 63, 1),
+            (&EXECUTE, 63, 15),
+            (&EXECUTE, 64, 23),
         ] {
             assert_eq!(model.step_within(places, record), Answer::Refused(refusal));
             assert!(model.bytes() == before, "{record:?}");
+        }
+    }
+
+    #[test]
+    fn refusal_15_comes_before_23_and_24() {
+        let mut model = Model::start_quorum(3).expect("three");
+        let before = model.bytes();
+        for (record, refusal) in [
+            (&[9, 0, 1, 9][..], 23),
+            (&JOIN, 23),
+            (&COPY, 23),
+            (&EXECUTE, 24),
+        ] {
+            for (places, refusal) in [(63, 15), (64, refusal)] {
+                assert_eq!(model.step_within(places, record), Answer::Refused(refusal));
+                assert!(model.bytes() == before, "{record:?}");
+            }
         }
     }
 
@@ -529,7 +596,7 @@ mod tests {
         let mut model = Model::start(8).expect("eight");
         assert_eq!(model.step(&COPY), Answer::Refused(19));
         for made in 1..=17 {
-            model.0.store[STORE - 1] = made;
+            model.0.store[COPIES] = made;
             let before = model.bytes();
             for (record, refusal) in [(COPY, 19), (JOIN, 17)] {
                 assert_eq!(model.step(&record), Answer::Refused(refusal), "{made}");
@@ -547,10 +614,12 @@ mod tests {
     }
 
     /// Where numbers lie in what is lent, for tests only: the switch's counter, the
-    /// last operation given, and the stamps of replica 1, two numbers for each object.
+    /// last operation given, the stamps of replica 1, two numbers for each object, and
+    /// one more than the copies that a newcomer has.
     const COUNTER: usize = 1;
     const LAST_GIVEN: usize = 65;
-    const STAMPS_OF_1: usize = 8553 + 2 * 1024;
+    const STAMPS_OF_1: usize = 8873 + 2 * 1024;
+    const COPIES: usize = 25_258;
 
     /// A lone replica with all operations but one given, and all counters used but
     /// one.

@@ -1,7 +1,7 @@
 //! The two libraries from outside, in one program: the same lines as the second
 //! model, refusals that change nothing, and what a file of records cannot reach.
-//! Reads of several objects, joins, drawn and shortened runs and the stack have
-//! modules of their own.
+//! Reads of several objects, joins, quorum stores, drawn and shortened runs and the
+//! stack have modules of their own.
 
 #[path = "outside/contexts.rs"]
 mod contexts;
@@ -9,6 +9,8 @@ mod contexts;
 mod draws;
 #[path = "outside/joins.rs"]
 mod joins;
+#[path = "outside/quorum.rs"]
+mod quorum;
 #[path = "outside/shortening.rs"]
 mod shortening;
 #[path = "outside/stack.rs"]
@@ -26,8 +28,7 @@ use woldladle::{
 fn lines(file: &[u8]) -> Option<Vec<u8>> {
     let pieces = records::pieces(file);
     let (first, rest) = pieces.split_first()?;
-    let [32, 0, 1, n] = **first else { return None };
-    let mut model = Model::start(n).ok()?;
+    let mut model = Model::start_record(first).ok()?;
     let mut out = b"1 ok 0 0 - - -\n".to_vec();
     let mut line = [0; LONGEST_LINE];
     for (number, record) in (2..).zip(rest) {
@@ -54,7 +55,7 @@ fn prints_what_the_second_model_prints() {
             stepped += 1;
         }
     }
-    assert!(stepped > 20, "{stepped}");
+    assert!(stepped > 80, "{stepped}");
 }
 
 /// How many bytes the whole lines have that fit into so much room, from the front
@@ -87,7 +88,7 @@ fn a_short_buffer_takes_whole_lines_only() {
 /// Writes a record of any tag, with small fields or large ones. The numbers of
 /// newcomers rise, so half of the advances and tells name a live replica.
 fn random_fields(random: &mut Random, model: &Model, record: &mut [u8]) -> Result<usize, u8> {
-    let tag = random.within(0, 14) as u8;
+    let tag = random.within(0, 15) as u8;
     let (most, count) = if random.chance(500) {
         (8, 3)
     } else {
@@ -98,7 +99,7 @@ fn random_fields(random: &mut Random, model: &Model, record: &mut [u8]) -> Resul
         let objects: Vec<u16> = objects.map(|_| random.below(most) as u16).collect();
         return write_context(&objects, record);
     }
-    if matches!(tag, 12 | 13) {
+    if matches!(tag, 12..=14) {
         return write_record(tag, 0, 0, record);
     }
     if matches!(tag, 6 | 8) && random.chance(500) {
@@ -122,12 +123,27 @@ fn random_record(random: &mut Random, model: &Model) -> Vec<u8> {
     record
 }
 
+/// The starts that stand: chains of 1 to 8, quorum stores of 3, 5 and 7.
+const STARTS: [[u8; 4]; 11] = [
+    [32, 0, 1, 1],
+    [32, 0, 1, 2],
+    [32, 0, 1, 3],
+    [32, 0, 1, 4],
+    [32, 0, 1, 5],
+    [32, 0, 1, 6],
+    [32, 0, 1, 7],
+    [32, 0, 1, 8],
+    [33, 0, 1, 3],
+    [33, 0, 1, 5],
+    [33, 0, 1, 7],
+];
+
 #[test]
 fn a_refusal_changes_no_byte() {
     let mut random = Random::new(11);
-    let (mut refused, mut done) = (0, 0);
-    for n in 1..=8 {
-        let mut model = Model::start(n).expect("1 to 8");
+    for start in STARTS {
+        let (mut refused, mut done) = (0, 0);
+        let mut model = Model::start_record(&start).expect("a start");
         for _ in 0..1500 {
             let record = random_record(&mut random, &model);
             let before = model.bytes();
@@ -139,13 +155,13 @@ fn a_refusal_changes_no_byte() {
                 _ => done += 1,
             }
         }
+        assert!(refused > 150 && done > 150, "{start:?}: {refused} {done}");
     }
-    assert!(refused > 1000 && done > 1000, "{refused} {done}");
 }
 
 /// Starts that are refused: by 1 where the bytes are not one whole start record, by 2
-/// where there are not 1 to 8 replicas.
-const REFUSED_STARTS: [(&[u8], u8); 17] = [
+/// where a chain has not 1 to 8 replicas, or a quorum store not 3, 5 or 7.
+const REFUSED_STARTS: [(&[u8], u8); 25] = [
     (&[], 1),
     (&[32], 1),
     (&[32, 0, 1], 1),              // a byte too few
@@ -156,13 +172,21 @@ const REFUSED_STARTS: [(&[u8], u8); 17] = [
     (&[32, 1, 0, 3], 1),
     (&[0, 0, 1, 3], 1), // no such tag
     (&[14, 0, 1, 3], 1),
-    (&[33, 0, 1, 3], 1),
+    (&[33, 0, 1], 1),
+    (&[33, 0, 0], 1),
+    (&[33, 0, 2, 3, 3], 1),
+    (&[33, 0, 1, 3, 14, 0, 0], 1),
+    (&[34, 0, 1, 3], 1),
     (&[9, 0, 1, 3], 1), // a step
     (&[12, 0, 0], 1),
+    (&[14, 0, 0], 1),
     (&[10, 0, 2, 0, 1], 1),
     (&[32, 0, 1, 0], 2),
     (&[32, 0, 1, 9], 2),
     (&[32, 0, 1, 255], 2),
+    (&[33, 0, 1, 1], 2),
+    (&[33, 0, 1, 4], 2),
+    (&[33, 0, 1, 9], 2),
 ];
 
 #[test]
@@ -172,21 +196,20 @@ fn a_start_is_one_whole_start_record() {
         assert_eq!(started.err(), Some(refusal), "{record:?}");
     }
     for n in 0..=255 {
-        let by_record = Model::start_record(&[32, 0, 1, n]).map(|model| model.bytes());
-        assert!(
-            by_record == Model::start(n).map(|model| model.bytes()),
-            "{n}"
-        );
+        let by_record = |tag| Model::start_record(&[tag, 0, 1, n]).map(|model| model.bytes());
+        let chain = Model::start(n).map(|model| model.bytes());
+        let quorum = Model::start_quorum(n).map(|model| model.bytes());
+        assert!(by_record(32) == chain && by_record(33) == quorum, "{n}");
     }
     let mut random = Random::new(13);
     for _ in 0..20_000 {
         let bytes = 0..random.below(7);
         let bytes: Vec<u8> = bytes
-            .map(|_| random.one_of(&[0, 1, 2, 9, 12, 32]))
+            .map(|_| random.one_of(&[0, 1, 3, 12, 32, 33]))
             .collect();
         let expected = match bytes[..] {
-            [32, 0, 1, 1..=8] => None,
-            [32, 0, 1, _] => Some(2),
+            [32, 0, 1, 1..=8] | [33, 0, 1, 3 | 5 | 7] => None,
+            [32 | 33, 0, 1, _] => Some(2),
             _ => Some(1),
         };
         assert_eq!(Model::start_record(&bytes).err(), expected, "{bytes:?}");
@@ -195,8 +218,13 @@ fn a_start_is_one_whole_start_record() {
 
 #[test]
 fn a_refused_restart_leaves_the_session_going_on() {
+    for start in [[32, 0, 1, 3], [33, 0, 1, 3]] {
+        goes_on_after_refused_restarts(Model::start_record(&start).expect("three"));
+    }
+}
+
+fn goes_on_after_refused_restarts(mut model: Model) {
     let mut random = Random::new(7);
-    let mut model = Model::start(3).expect("three");
     let (mut line, mut other) = ([0; LONGEST_LINE], [0; LONGEST_LINE]);
     let mut waited = 0;
     for number in 2..3000 {
@@ -223,10 +251,18 @@ fn a_refused_restart_leaves_the_session_going_on() {
     }
     assert!(waited > 1000, "{waited}");
     assert_eq!(model.restart(0), Err(2));
-    assert_eq!(model.restart(8), Ok(()));
-    assert_eq!((model.waiting(), model.marks()), (0, 0));
-    let size = model.line(1, &mut line);
-    assert_eq!(&line[..size], b"1 ok 0 0 - - -\n");
+    assert_eq!(model.restart_quorum(6), Err(2));
+    for (restart, n) in [
+        (Model::restart as fn(&mut Model, u8) -> Result<(), u8>, 8),
+        (Model::restart_quorum, 7),
+    ] {
+        let mut model = model.clone();
+        assert_eq!(restart(&mut model, n), Ok(()));
+        assert_eq!(model.chain().live.len(), usize::from(n));
+        assert_eq!((model.waiting(), model.marks()), (0, 0));
+        let size = model.line(1, &mut line);
+        assert_eq!(&line[..size], b"1 ok 0 0 - - -\n");
+    }
 }
 
 /// Steps with these numbers.
@@ -371,7 +407,7 @@ fn records_are_written_whole_or_not_at_all() {
     let mut random = Random::new(5);
     for _ in 0..20_000 {
         let tag = random.one_of(&[
-            32, 1, 2, 3, 4, 5, 6, 7, 8, 9, 10, 12, 13, 0, 11, 14, 33, 255,
+            32, 33, 1, 2, 3, 4, 5, 6, 7, 8, 9, 10, 12, 13, 14, 0, 11, 15, 34, 255,
         ]);
         let first = random.one_of(&[0, 1, 255, 256, 1023, 65_535, 65_536, u32::MAX]);
         let second = random.one_of(&[0, 0, 1, 255, 256, u32::MAX]);

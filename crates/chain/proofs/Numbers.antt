@@ -10,8 +10,8 @@ use lib.Dec.{eqb}
 use borrow.Author.Tests.{ltb-true, lt-ltb, eqb-true, eqb-false, eq-eqb, ne-eqb}
 use Rattle.lists.proofs.Index.{index-first, index-none, index-at}
 use Rattle.lists.proofs.Places.{length-listOf, getD-listOf}
-use Rattle.store.specs.{liveCount, numberAt}
-use Rattle.chain.specs.{isLive, memberAt, tailOf, numbers, placeOf, isMember, isTail, tableOf, numberIn, headNumber, tailNumber, readReplicaOf, isReadPlace, isReadReplica, chosenBy}
+use Rattle.store.specs.{liveCount, numberAt, isQuorum}
+use Rattle.chain.specs.{isLive, memberAt, headOf, tailOf, numbers, placeOf, isMember, isTail, tableOf, numberIn, headNumber, tailNumber, readReplicaOf, readReplicaNumber, isReadPlace, isReadReplica, chosenBy}
 use Rattle.chain.proofs.Members.{member-in, in-live, tail-is}
 
 -- ---- the numbers in chain order
@@ -104,24 +104,43 @@ tail-table s r e = ap (memberAt s) (omega (arith, tail-place s r e)) ∙ sym (ta
 
 -- ---- the replica that answers normal reads
 
-pub read-place-none : (s : List ℕ) (p : ℕ) → liveCount s ≡ 0 → isReadPlace s p ≡ false
-unfolding isReadPlace
-read-place-none s p e = ne-eqb (p + 1) (liveCount s) (λ d. omega (arith, d, e))
+-- in a chain its place is the last
+module _ (s : List ℕ) (chain : isQuorum s ≡ false) where
+  pub read-place-none : (p : ℕ) → liveCount s ≡ 0 → isReadPlace s p ≡ false
+  unfolding isReadPlace
+  read-place-none p e = rw chain (ne-eqb (p + 1) (liveCount s) (λ d. omega (arith, d, e)))
 
--- its place is the last
-pub read-place-last : (s : List ℕ) (p : ℕ) → 0 < liveCount s → isReadPlace s p ≡ eqb p (liveCount s - 1)
-unfolding isReadPlace
-read-place-last s p h = go (eqb p (liveCount s - 1)) refl
-  where
-    go : (t : Bool) → eqb p (liveCount s - 1) ≡ t → eqb (p + 1) (liveCount s) ≡ t
-    go true e = eq-eqb (p + 1) (liveCount s) (omega (arith, eqb-true p (liveCount s - 1) e))
-    go false e = ne-eqb (p + 1) (liveCount s) (λ d. eqb-false p (liveCount s - 1) e (omega (arith, d)))
+  pub read-place-last : (p : ℕ) → 0 < liveCount s → isReadPlace s p ≡ eqb p (liveCount s - 1)
+  unfolding isReadPlace
+  read-place-last p h = rw chain (go (eqb p (liveCount s - 1)) refl)
+    where
+      go : (t : Bool) → eqb p (liveCount s - 1) ≡ t → eqb (p + 1) (liveCount s) ≡ t
+      go true e = eq-eqb (p + 1) (liveCount s) (omega (arith, eqb-true p (liveCount s - 1) e))
+      go false e = ne-eqb (p + 1) (liveCount s) (λ d. eqb-false p (liveCount s - 1) e (omega (arith, d)))
 
--- it is the tail
-pub read-replica-is : (s : List ℕ) → readReplicaOf s ≡ tailOf s
-unfolding readReplicaOf
-read-replica-is s = refl
+  -- it is the tail
+  pub read-replica-is : readReplicaOf s ≡ tailOf s
+  unfolding readReplicaOf
+  read-replica-is = rw chain refl
 
-pub read-replica-tail : (s : List ℕ) (r : ℕ) → isReadReplica s r ≡ isTail s r
-unfolding isReadReplica isReadPlace isTail
-read-replica-tail s r = refl
+  pub read-number-is : readReplicaNumber s ≡ tailNumber s
+  unfolding readReplicaNumber
+  read-number-is = rw chain refl
+
+  pub read-replica-tail : (r : ℕ) → isReadReplica s r ≡ isTail s r
+  unfolding isReadReplica isReadPlace isTail
+  read-replica-tail r = rw chain refl
+
+-- in a quorum store it is the leader, at the head's place
+module _ (s : List ℕ) (quorum : isQuorum s ≡ true) where
+  pub read-place-first : (p : ℕ) → isReadPlace s p ≡ eqb p 0
+  unfolding isReadPlace
+  read-place-first p = rw quorum refl
+
+  pub read-replica-leader : readReplicaOf s ≡ headOf s
+  unfolding readReplicaOf
+  read-replica-leader = rw quorum refl
+
+  pub read-number-leader : readReplicaNumber s ≡ headNumber s
+  unfolding readReplicaNumber
+  read-number-leader = rw quorum refl

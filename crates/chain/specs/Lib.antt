@@ -6,7 +6,7 @@ use lib.ListN.{getD, set, replicate}
 use lib.Dec.{eqb, ltb}
 use Rattle.limits.specs as limits
 use Rattle.lists.specs.{moves, indexOf, listOf, allOf}
-use Rattle.store.specs.{liveCell, orderCell, permitCell, lastNumberCell, storeCells, rowOf, named, liveCount, orderAt, numberAt, members, permittedBy}
+use Rattle.store.specs.{liveCell, orderCell, permitCell, lastNumberCell, storeCells, rowOf, named, liveCount, orderAt, numberAt, members, permittedBy, isQuorum}
 
 -- ---- by tables
 
@@ -61,17 +61,17 @@ tailNumber s = numberIn s (liveCount s - 1)
 unfoldable pub chosenBy : List ℕ → ℕ → ℕ
 chosenBy s choice = numberIn s (choice % liveCount s)
 
--- ---- the replica that answers normal reads: the tail
+-- ---- the replica that answers normal reads: the tail; Req 11: in a quorum store the leader, which is the head
 
 unfoldable pub readReplicaOf : List ℕ → ℕ
-readReplicaOf s = tailOf s
+readReplicaOf s = cond (isQuorum s) (headOf s) (tailOf s)
 
 unfoldable pub readReplicaNumber : List ℕ → ℕ
-readReplicaNumber s = tailNumber s
+readReplicaNumber s = cond (isQuorum s) (headNumber s) (tailNumber s)
 
 -- it stands at this place
 unfoldable pub isReadPlace : List ℕ → ℕ → Bool
-isReadPlace s place = eqb (place + 1) (liveCount s)
+isReadPlace s place = cond (isQuorum s) (eqb place 0) (eqb (place + 1) (liveCount s))
 
 unfoldable pub isReadReplica : List ℕ → ℕ → Bool
 isReadReplica s r = isReadPlace s (placeOf s r)

@@ -103,16 +103,22 @@ pub fn tail_number(cells: &[u32; CELLS]) -> Replica
     number_at(cells, n - 1)
 }
 
-// The replica that answers normal reads, by its table and by its number: the tail.
+// The replica that answers normal reads, by its table and by its number: the tail, or the leader of a quorum store.
 pub fn read_replica(cells: &[u32; CELLS]) -> Table
     ensures { λ r. ⌜ r ≡ readReplicaOf (now (cells .entry)) ⌝ }
 {
+    if store::is_quorum(cells) {
+        return head(cells);
+    }
     tail(cells)
 }
 
 pub fn read_replica_number(cells: &[u32; CELLS]) -> Replica
     ensures { λ r. ⌜ r ≡ readReplicaNumber (now (cells .entry)) ⌝ }
 {
+    if store::is_quorum(cells) {
+        return head_number(cells);
+    }
     tail_number(cells)
 }
 
@@ -120,6 +126,9 @@ pub fn read_replica_number(cells: &[u32; CELLS]) -> Replica
 pub fn is_read_place(cells: &[u32; CELLS], place: usize) -> bool
     ensures { λ r. ⌜ r ≡ isReadPlace (now (cells .entry)) place ⌝ }
 {
+    if store::is_quorum(cells) {
+        return place == 0;
+    }
     let n = count(cells);
     if n == 0 {
         return false;

@@ -4,6 +4,7 @@ ghost use Rattle.lists.specs.{allOf};
 ghost use Rattle.store.specs.{valueAt};
 ghost use Rattle.contexts.specs.{numbersOf, mapped};
 ghost use Rattle.replicas.specs.Replicas.{isNotAbove, answersDirect};
+ghost use Rattle.protocol.specs.Reads.{answersRead};
 ghost use Rattle.protocol.specs.Contexts.{answeringContext, directContext, normalContext, contextReply};
 use contexts::Context;
 use limits::Number;
@@ -40,6 +41,16 @@ fn answers(store: &[u32; store::CELLS], q: Table, number: Number, t: Stamp, v: C
         return false;
     }
     none_above(store, q, t, v)
+}
+
+// Whether the replica answers a direct read of several objects.
+fn answers_read(store: &[u32; store::CELLS], q: Table, number: Number, t: Stamp, v: Context) -> bool
+    ensures { λ r. ⌜ r ≡ answersRead (now (store .entry)) q number t (numbersOf v) ⌝ }
+{
+    if store::is_quorum(store) {
+        return quorum::answers(store, q, number, t);
+    }
+    answers(store, q, number, t, v)
 }
 
 fn value(store: &[u32; store::CELLS], q: Table, x: Object) -> u32
@@ -102,7 +113,7 @@ pub fn direct_read(
         return context_rows::drop_row(&mut *opens, at, r);
     }
     let table = chain::member(store, place);
-    if answers(store, table, number, t, contexts::load(opens, r)) {
+    if answers_read(store, table, number, t, contexts::load(opens, r)) {
         return answer(store, &mut *opens, at, table, o, r);
     }
     decisions::pass_on(

@@ -6,12 +6,12 @@ use Prim.Native.Nat.{ℕ}
 use denote.Enum.Declared.{tagOf as variantOf}
 use types.Run.{OneOf, miss}
 use Rattle.protocol.specs.declared.Step.{Step}
-use Rattle.protocol.specs.declared.Step.the-variants.{Start, BeginRead, BeginWrite, Deliver, Lose, Repeat, Advance, Replace, Tell, Remove, GiveUp, BeginContext, Join, Copy}
+use Rattle.protocol.specs.declared.Step.the-variants.{Start, BeginRead, BeginWrite, Deliver, Lose, Repeat, Advance, Replace, Tell, Remove, GiveUp, BeginContext, Join, Copy, Execute}
 use Rattle.protocol.specs.Steps.{isMalformed}
 use Rattle.protocol.proofs.Step as step
 
 abbrev others : List ℕ
-others = 1 ∷ 2 ∷ 3 ∷ 4 ∷ 5 ∷ 6 ∷ 8 ∷ 9 ∷ 10 ∷ 12 ∷ 13 ∷ []
+others = 1 ∷ 2 ∷ 3 ∷ 4 ∷ 5 ∷ 6 ∷ 8 ∷ 9 ∷ 10 ∷ 12 ∷ 13 ∷ 14 ∷ []
 
 pub well-formed : (x : Step) → OneOf others (variantOf step.the-type x) → false ≡ isMalformed x
 unfolding isMalformed
@@ -29,3 +29,4 @@ well-formed (GiveUp o) i = refl
 well-formed (BeginContext x) i = absurd (miss others 11 tt i)
 well-formed Join i = refl
 well-formed Copy i = refl
+well-formed Execute i = refl

@@ -46,6 +46,7 @@ fn decide_step(
         Step::BeginContext(x) => begins::begin_context(&mut *opens, held, x),
         Step::Join => steps::join(&mut *store),
         Step::Copy => steps::copy_on(&mut *store),
+        Step::Execute => steps::execute(&mut *store, held),
     }
 }
 

@@ -32,6 +32,10 @@ openOperations = 64
 abbrev pub linked : ℕ
 linked = 64
 
+-- Req 11: the entries of the log that the store keeps, the last ones; a replica that lags furthest needs 96 of them
+abbrev pub kept : ℕ
+kept = 128
+
 -- Req 02: a read of a whole context names 2 to 8 objects
 abbrev pub contextLeast : ℕ
 contextLeast = 2

@@ -11,7 +11,7 @@ use Rattle.history.proofs.Entries.{Entry}
 use Rattle.store.specs.declared.Write.{Write}
 use Rattle.waiting.specs.declared.Packet.{Packet}
 use Rattle.protocol.specs.declared.Message.{Message}
-use Rattle.protocol.specs.declared.Message.the-variants.{ContextRead, DirectContext, NormalContext, ContextReply, Unknown}
+use Rattle.protocol.specs.declared.Message.the-variants.{ContextRead, DirectContext, NormalContext, ContextReply, Acknowledgement, Unknown}
 use Rattle.protocol.specs.Messages.{contextMessage, messageOf, isOfContext, inRow}
 use Rattle.protocol.proofs.Effects.{Names}
 use Rattle.linearizability.proofs.Packets.{AnsweredContext, rowNumbers, Direct, Fine, Asks}
@@ -88,7 +88,7 @@ module _ (p : Packet) (low : 8 ≤ p .kind) where
       go : (a : Bool) → eqb (p .kind) 8 ≡ a → (b : Bool) → eqb (p .kind) 9 ≡ b → (c : Bool) → eqb (p .kind) 10 ≡ c → (d : Bool) → eqb (p .kind) 11 ≡ d
           → (q : ℕ → Message) × Family q × ((s : ℕ)
           → cond a (ContextRead (p .operation) s) (cond b (DirectContext (p .replica) (p .number) (p .stamp) (p .operation) s)
-          (cond c (NormalContext (p .replica) (p .operation) s) (cond d (ContextReply (p .operation) s) Unknown))) ≡ q s)
+          (cond c (NormalContext (p .replica) (p .operation) s) (cond d (ContextReply (p .operation) s) (cond (eqb (p .kind) 12) (Acknowledgement (p .replica) s) Unknown)))) ≡ q s)
       go true e b f c k d l = (λ r. ContextRead (p .operation) r, asked (p .operation), λ s. refl)
       go false e true f c k d l = (λ r. DirectContext (p .replica) (p .number) (p .stamp) (p .operation) r, direct (p .replica) (p .number) (p .stamp) (p .operation), λ s. refl)
       go false e false f true k d l = (λ r. NormalContext (p .replica) (p .operation) r, normal (p .replica) (p .operation), λ s. refl)

@@ -3,13 +3,13 @@ use mathlib.Core.Path.{_≡_, refl, sym, ap, _∙_, subst}
 use mathlib.Core.Bool.{true, false}
 use mathlib.Core.List.{List, [], _∷_, _++_, map}
 use mathlib.Core.Logic.{inl, inr}
-use Prim.Native.Nat.{ℕ, zero, suc, _+_, _≤_, _<_}
+use Prim.Native.Nat.{ℕ, zero, suc, _+_, _-_, _≤_, _<_}
 use native.Mathlib.Omega.{arith}
-use lib.ListN.{take}
+use lib.ListN.{length, take}
 use lib.Seq.{slice}
 use Rattle.limits.specs as limits
 use Rattle.history.specs.History.{_∈_, writes, History, finished}
-use Rattle.history.proofs.Lists.{there, cases-cons, in-take}
+use Rattle.history.proofs.Lists.{there, cases-cons, cases-append, only-member, in-take}
 use Rattle.history.proofs.Entries.{Entry, Unfinished}
 use Rattle.history.proofs.Growth.{older, begun-not-finished}
 use Rattle.stamp.specs.Stamps.{stampOf, numberOf}
@@ -23,27 +23,30 @@ use Rattle.contexts.proofs.Rows.{Apart, size-is, context-closing, context-apart
 use Rattle.operations.proofs.Laws.{SizedOpens, last-closing, open-after-closing}
 use Rattle.store.specs.declared.Write.{Write}
 use Rattle.store.specs.{valueAt}
-use Rattle.waiting.specs.Waiting.{held}
+use Rattle.waiting.specs.Waiting.{held, edited}
+use Rattle.replicas.specs.Links.{entries}
+use Rattle.replicas.specs.Visible.{visibleCount, madeVisible}
+use Rattle.protocol.specs.Answers.{noFreshness}
 use Rattle.waiting.proofs.Laws as waiting
 use Rattle.protocol.specs.declared.Answer.the-variants.{FinishedContext}
 use Rattle.protocol.specs.declared.Message.{Message}
-use Rattle.protocol.specs.declared.Message.the-variants.{Reply, ContextReply}
+use Rattle.protocol.specs.declared.Message.the-variants.{Completion, Reply, ContextReply}
 use Rattle.protocol.specs.declared.Step.the-variants.{Deliver}
-use Rattle.protocol.specs.Decisions.{Outcome, switched, opened, keeping, changingSwitch, changingOpens, takeOut, dropping, passing}
+use Rattle.protocol.specs.Decisions.{Outcome, switched, opened, keeping, changingSwitch, changingOpens, noEdit, takeOut, dropping, passing, overfull}
 use Rattle.protocol.specs.Contexts.{droppingRow, answeringContext}
 use Rattle.protocol.specs.Delivery.{reply}
-use Rattle.protocol.specs.Steps.{Machine, givenBy}
+use Rattle.protocol.specs.Steps.{Machine, machine, givenBy, sending}
 use Rattle.log.proofs.Log.{values, top}
 use Rattle.log.proofs.Holds.{Small}
 use Rattle.linearizability.proofs.Visible.{shows}
-use Rattle.linearizability.proofs.Logged.{Logged, slice-is, slice-rising, slice-issued, slice-chain}
+use Rattle.linearizability.proofs.Logged.{Logged, logged-show, slice-is, slice-rising, slice-issued, slice-chain}
 use Rattle.protocol.proofs.Effects.{Names}
 use Rattle.linearizability.proofs.Packets.{AnsweredContext, rowNumbers, Direct, Asks, unstampedOne, unstamped, unstamped-append, unstamped-lost, asks-none}
 use Rattle.linearizability.proofs.Core.{core-add, core-rows, core-lose, core-leave, core-turn}
 use Rattle.linearizability.proofs.Order.{Sent, core-outcome, core-finishes, context-finishes}
-use Rattle.linearizability.proofs.Waits.{messages, front, back, Stands, stands-in, taken-out, taken-out-add}
+use Rattle.linearizability.proofs.Waits.{messages, front, back, Stands, stands-in, taken-out, taken-out-add, edited-nothing, added-two}
 use Rattle.linearizability.proofs.SwitchLaws.{top-low}
-use Rattle.linearizability.proofs.Invariant.{ReplicasHold, Placed, Books, SwitchHolds, oneChain, only, ChainCore, ChainFine, Good, Then, order-stays, posted-lost, posted-add}
+use Rattle.linearizability.proofs.Invariant.{ReplicasHold, Placed, Books, SwitchHolds, oneChain, only, ChainCore, ChainFine, Good, Then, order-stays, Keeps, placed-by, posted-lost, posted-add}
 
 -- the invariant, from what the list then holds
 pub good-of : {k : Machine} {h : History} {es : List Entry} (issued log : List Write) (n : ℕ) (ms : List Message) → messages (k .waiting) ≡ ms
@@ -52,6 +55,46 @@ pub good-of : {k : Machine} {h : History} {es : List Entry} (issued log : List W
     → Books (k .opens) h → counterIn (k .switch) + unstamped ms ≤ lastGiven (k .opens) → SwitchHolds issued (k .switch) → waiting.Exact (k .waiting) → Good k h es
 good-of issued log n ms e c l s p b u z x =
     record { issued = issued; log = log; n = n; core = rw e c; logged = l; replicas = s; posted = rw e p; books = b; counted = rw e u; switch-holds = z; exact = x }
+
+-- the chain shows the first n' writes of its log, and sends for the new ones
+pub chain-outcome : {h : History} {es : List Entry} {issued log : List Write} {n c : ℕ} {ms : List Message} {opens : List ℕ} → ChainCore h es issued log n ms c opens
+    → Logged oneChain issued log 0 n → (n' : ℕ) → n ≤ n' → (sent : List Message) → Sent (slice n n' log) sent
+    → ChainCore h (shows es (slice n n' log)) issued log n' (ms ++ sent) c opens
+chain-outcome {log} {n} k l n' g sent s =
+    core-outcome k {shown' = only (take n' log)} 0 (slice n n' log) (slice-is l n' g) others (slice-rising l n' g) (slice-issued l n' g) (slice-chain l n' g) sent s
+  where
+    others : (e : ℕ) → (e ≡ 0 → ⊥) → only (take n' log) e ≡ only (take n log) e
+    others zero q = absurd (q refl)
+    others (suc e) q = refl
+
+-- the reply and the completion of a write are for no replica
+pub answer-placed : (s : List ℕ) (w : Write) (q : Message) → q ∈ Reply (w .operation) (w .value) 0 noFreshness ∷ Completion (w .object) (w .stamp) ∷ [] → Placed s q
+answer-placed s w q j = elim (cases-cons j) [ inl e ↦ rw e (tt, omega arith) | inr i ↦ rw (only-member i) (tt, omega arith) ]
+
+-- the writes that become visible when n' are and n were
+pub made-visible : (s t : List ℕ) {n n' : ℕ} → visibleCount s ≡ n → visibleCount t ≡ n' → madeVisible s t ≡ entries t n (n' - n)
+unfolding madeVisible
+made-visible s t p q = rw (p, q) refl
+
+-- another store, which shows the same, and the list as it was
+pub good-store : {m : Machine} {h : History} {es : List Entry} (g : Good m h es) (t : List ℕ) → ReplicasHold t (g .log) (g .n) → Keeps (m .store) t
+    → Good (machine (m .switch) t (m .opens) (edited (m .waiting) noEdit)) h es
+good-store {m} g t s e =
+    good-of (g .issued) (g .log) (g .n) (messages (m .waiting)) (ap messages (edited-nothing (m .waiting))) (g .core) (g .logged) s
+    (λ q i. placed-by e q (g .posted q i)) (g .books) (g .counted) (g .switch-holds) (waiting.exact-edited (m .waiting) noEdit (g .exact))
+
+-- another store, in which one more write of the log is visible, and its reply and its completion at the end of the list
+pub good-shown : {m : Machine} {h : History} {es : List Entry} (g : Good m h es) → waiting.Roomy (m .waiting) → (t : List ℕ) (w : Write) → ReplicasHold t (g .log) (suc (g .n)) → Keeps (m .store) t
+    → suc (g .n) ≤ length (g .log) → slice (g .n) (suc (g .n)) (g .log) ≡ w ∷ [] → madeVisible (m .store) t ≡ slice (g .n) (suc (g .n)) (g .log) → overfull (held (m .waiting)) 0 2 ≡ false
+    → Good (machine (m .switch) t (m .opens) (edited (m .waiting) (sending w))) h (shows es (madeVisible (m .store) t))
+good-shown {m} {h} {es} g wide t w s keeps long one shown roomy =
+    let sent : List Message = Reply (w .operation) (w .value) 0 noFreshness ∷ Completion (w .object) (w .stamp) ∷ [] in
+    rw shown
+    (good-of (g .issued) (g .log) (suc (g .n)) (messages (m .waiting) ++ sent)
+    (added-two (m .waiting) wide (g .exact) (Reply (w .operation) (w .value) 0 noFreshness) (Completion (w .object) (w .stamp)) roomy)
+    (chain-outcome (g .core) (g .logged) (suc (g .n)) (omega arith) sent (inr (w, one, refl))) (logged-show (g .logged) (suc (g .n)) long) s
+    (λ q i. placed-by keeps q (elim (cases-append (messages (m .waiting)) i) [ inl j ↦ g .posted q j | inr j ↦ answer-placed (m .store) w q j ]))
+    (g .books) (omega (arith, g .counted, unstamped-append (messages (m .waiting)) sent)) (g .switch-holds) (waiting.exact-edited (m .waiting) _ (g .exact)))
 
 -- writes that were stamped are to objects that there are
 pub issued-small : {m : Machine} {h : History} {es : List Entry} (g : Good m h es) (w : Write) → w ∈ g .issued → w .object < 1024
@@ -103,17 +146,6 @@ books-same s z b = record {
   ends-once = b .ends-once;
 }
 
--- the chain shows the first n' writes of its log, and sends for the new ones
-pub chain-outcome : {h : History} {es : List Entry} {issued log : List Write} {n c : ℕ} {ms : List Message} {opens : List ℕ} → ChainCore h es issued log n ms c opens
-    → Logged oneChain issued log 0 n → (n' : ℕ) → n ≤ n' → (sent : List Message) → Sent (slice n n' log) sent
-    → ChainCore h (shows es (slice n n' log)) issued log n' (ms ++ sent) c opens
-chain-outcome {log} {n} k l n' g sent s =
-    core-outcome k {shown' = only (take n' log)} 0 (slice n n' log) (slice-is l n' g) others (slice-rising l n' g) (slice-issued l n' g) (slice-chain l n' g) sent s
-  where
-    others : (e : ℕ) → (e ≡ 0 → ⊥) → only (take n' log) e ≡ only (take n log) e
-    others zero q = absurd (q refl)
-    others (suc e) q = refl
-
 -- no visible write has a stamp above the last that the switch gave
 pub visible-given : {m : Machine} {h : History} {es : List Entry} (g : Good m h es) → top 0 (take (g .n) (g .log)) ≤ stampOf (numberIn (m .switch)) (counterIn (m .switch))
 visible-given {m} g = top-low (stampOf (numberIn (m .switch)) (counterIn (m .switch))) 0 (take (g .n) (g .log)) (omega arith)
@@ -123,10 +155,6 @@ visible-given {m} g = top-low (stampOf (numberIn (m .switch)) (counterIn (m .swi
 pub not-later : {m : Machine} {h : History} {es : List Entry} (g : Good m h es) (t : ℕ) → t ≤ top 0 (take (g .n) (g .log)) → numberOf t ≤ numberIn (m .switch)
 unfolding numberOf stampOf
 not-later {m} g t low = omega (arith, low, visible-given g, g .counted, g .books .few)
-
--- the stamp that a direct read of an object carries is not above what the chain shows
-pub direct-low : {h : History} {es : List Entry} {ws : List Write} {c o : ℕ} {xs : List ℕ} → Direct oneChain h es (only ws) c o xs → (x : ℕ) → x ∈ xs → c ≤ top 0 ws
-direct-low {ws} {c} (d, in-one, low, behind) x i = subst (λ (e : ℕ). c ≤ top 0 (only ws e)) (sym (in-one x i)) low
 
 -- the message that stands at a position is delivered
 module _ {m : Machine} {h : History} {es : List Entry} (g : Good m h es) {at : ℕ} (choice : ℕ) {msg : Message} (i : Stands (m .waiting) at msg) where

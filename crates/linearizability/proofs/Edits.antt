@@ -17,8 +17,11 @@ use Rattle.history.proofs.Lists.{no-member, only-member, cases-cons, cases-appe
 use Rattle.history.proofs.Entries.{Entry}
 use Rattle.lists.specs.{without}
 use Rattle.lists.proofs.Index.{at-in}
+use Rattle.history.proofs.Lists.{in-getD}
 use Rattle.store.specs.declared.Write.{Write}
-use Rattle.chain.specs.{placeOf, tableOf}
+use Rattle.store.specs.{isQuorum}
+use Rattle.chain.specs.{headOf, placeOf, tableOf}
+use Rattle.quorum.specs.{nextEntry, executes}
 use Rattle.replicas.specs.Replicas.{pendingAt, pending}
 use Rattle.chain.proofs.Numbers.{table-live}
 use Rattle.waiting.specs.declared.Packet.{Packet}
@@ -37,11 +40,14 @@ use Rattle.protocol.specs.declared.Setup.{Setup}
 use Rattle.protocol.specs.Steps.{Machine, givenBy, positionOf, isMalformed, decided, decidedIn, after, started}
 use Rattle.protocol.specs.Roles.{roleOf}
 use Rattle.protocol.specs.Answers.{noFreshness}
-use Rattle.protocol.proofs.Effects.{takesAs, Oldest, EditEffect, edits-nothing, takes-out, turns-into, answers-write, adds-new, adds-copy, sends-write, packetAt, step-effect}
+use Rattle.protocol.proofs.Effects.{takesAs, Oldest, EditEffect, edits-nothing, takes-out, turns-into, answers-write, adds-new, adds-copy, sends-executed, sends-write, packetAt, step-effect}
 use Rattle.log.proofs.Tables.{table-pending}
+use Rattle.log.proofs.Holds.{noWrite}
+use Rattle.log.proofs.Leader.{next-there, executed-entry}
 use Rattle.linearizability.proofs.Order.{in-drop}
 use Rattle.linearizability.proofs.Waits.{room}
-use Rattle.linearizability.proofs.Invariant.{chain-held, Good, done, refused-stays}
+use Rattle.linearizability.proofs.Invariant.{chain-held, quorum-held, Good, done, refused-stays}
+use Rattle.linearizability.proofs.Deliveries.{log-small}
 use Rattle.linearizability.proofs.ChainMoves.{oldest-small}
 use Rattle.linearizability.proofs.OneOrder.{good-after}
 use Rattle.linearizability.proofs.Limits.{reached}
@@ -79,11 +85,19 @@ two-small w q s i = elim (cases-cons i) [ inl e ↦ subst (λ (k : Packet). k .o
 
 module _ {m : Machine} {h : History} {es : List Entry} (g : Good m h es) (known : Known m) (x : Step) where
   -- the oldest write of a link is of an object that there is
-  small-oldest : (w : Write) → Oldest (m .store) w → w .object < 1024
-  small-oldest w (r, member, some, is) =
+  small-oldest : (w : Write) → isQuorum (m .store) ≡ false → Oldest (m .store) w → w .object < 1024
+  small-oldest w chain (r, member, some, is) =
       let table = tableOf (m .store) r in
-      let p : 0 < pending (m .store) table = omega (arith, eqb-false (pendingAt (m .store) (placeOf (m .store) r) table) 0 some, table-pending (m .store) r (chain-held (g .replicas) .shown .falls) member) in
-      subst (λ (v : Write). v .object < 1024) (sym is) (oldest-small g (chain-held (g .replicas)) r table (table-live (m .store) r member) p)
+      let p : 0 < pending (m .store) table = omega (arith, eqb-false (pendingAt (m .store) (placeOf (m .store) r) table) 0 some, table-pending (m .store) r (chain-held chain (g .replicas) .shown .falls) member) in
+      subst (λ (v : Write). v .object < 1024) (sym is) (oldest-small g (chain-held chain (g .replicas)) r table (table-live (m .store) r member) p)
+
+  -- so is the one that the leader executes
+  small-executed : (w : Write) → isQuorum (m .store) ≡ true → executes (m .store) ≡ true → w ≡ nextEntry (m .store) (headOf (m .store)) → w .object < 1024
+  small-executed w quorum can is =
+      let k = quorum-held quorum (g .replicas) in
+      let up = g .logged .rising in
+      let from : getD (g .log) (g .n) noWrite ∈ g .log = in-getD (g .log) (g .n) noWrite (next-there (k .shown) can up (log-small g)) in
+      subst (λ (v : Write). v .object < 1024) (sym (is ∙ executed-entry (k .shown) can up (log-small g))) (log-small g (getD (g .log) (g .n) noWrite) from)
 
   edits-of : {a : Answer} {e : Edit} → EditEffect (packetAt m x) (roleOf x) (m .store) (held (m .waiting)) a e → Edits x (held (m .waiting)) (record { answer = a; edit = e })
   unfolding added positionOf
@@ -111,8 +125,10 @@ module _ {m : Machine} {h : History} {es : List Entry} (g : Good m h es) (known 
       record { takes = sym n; at-is = untrue; most = omega arith; inside = untrue; fits = untrue; small = λ p j. one-small (packetOf q) p s j }
   edits-of (adds-copy f s i n roomy) =
       record { takes = sym n; at-is = untrue; most = omega arith; inside = untrue; fits = untrue; small = λ p j. one-small f p (omega (arith, s, known (positionOf x) i)) j }
-  edits-of (sends-write w old n roomy) =
-      record { takes = sym n; at-is = untrue; most = omega arith; inside = untrue; fits = untrue; small = λ p j. two-small w p (small-oldest w old) j }
+  edits-of (sends-executed w quorum can is n roomy) =
+      record { takes = sym n; at-is = untrue; most = omega arith; inside = untrue; fits = untrue; small = λ p j. two-small w p (small-executed w quorum can is) j }
+  edits-of (sends-write w chain old n roomy) =
+      record { takes = sym n; at-is = untrue; most = omega arith; inside = untrue; fits = untrue; small = λ p j. two-small w p (small-oldest w chain old) j }
 
   pub edits-decided : Edits x (held (m .waiting)) (decided (givenBy m) (packetAt m x) x .decision)
   edits-decided = edits-of (step-effect (givenBy m) (packetAt m x) x .edit)

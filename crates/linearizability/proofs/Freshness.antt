@@ -16,8 +16,7 @@ use Rattle.history.proofs.Claim.{numbers}
 use Rattle.contexts.specs.{numbersOf}
 use Rattle.store.specs.declared.Write.{Write}
 use Rattle.store.specs.{stampAt}
-use Rattle.chain.specs.{isTail, tableOf}
-use Rattle.chain.proofs.Numbers.{tail-table}
+use Rattle.chain.specs.{isReadReplica, tableOf}
 use Rattle.waiting.specs.declared.Packet.{Packet}
 use Rattle.waiting.specs.Waiting.{lookAt}
 use Rattle.protocol.specs.Answers.{oldRead, newRead}
@@ -35,7 +34,6 @@ use Rattle.protocol.specs.Steps.{Machine, answerTo, after, started}
 use Rattle.protocol.proofs.Finished.{FinishedBy, finished-by-reply}
 use Rattle.protocol.proofs.Freshness.{old-below, new-from}
 use Rattle.log.proofs.Log.{stamps}
-use Rattle.log.proofs.Shows.{stamp-tail}
 use Rattle.linearizability.specs.Run.{noted, historyFrom, historyOf}
 use Rattle.linearizability.proofs.Members.{has}
 use Rattle.linearizability.proofs.Visible.{entry, shows, WritesFrom, Wrote, visible-wrote, visible-unwritten}
@@ -43,7 +41,8 @@ use Rattle.linearizability.proofs.Packets.{Answered}
 use Rattle.linearizability.proofs.Order.{objectsOf, finishOrder, finish-read}
 use Rattle.linearizability.proofs.Waits.{messages, Stands, stands-in, at-position}
 use Rattle.replicas.specs.Visible.{visibleCount, madeVisible}
-use Rattle.linearizability.proofs.Invariant.{chain-held, Good, finishing, orderNext, order-stays}
+use Rattle.linearizability.proofs.Invariant.{Good, finishing, orderNext, order-stays}
+use Rattle.linearizability.proofs.Replicas.{read-is}
 use Rattle.linearizability.proofs.OneOrder.{orderFrom}
 use Rattle.linearizability.proofs.Limits.{reached, machineOf, good-run}
 
@@ -143,17 +142,17 @@ module _ (b : Setup) (starts : startRefused b ≡ false) (row : List Packet) (xs
             record { write = w; ordered = ahead-first w read whole stays; from-carried = from; before = ahead-map (λ (f : Entry). f .operation) w read whole stays },
       )
 
-  -- a normal read that waits for the tail, which its delivery answers (crates/protocol/specs/Delivery.antt, `normalRead`)
-  module _ (r o x c : ℕ) (waits : NormalRead r o x c ∈ messages (m .waiting)) (tail : isTail (m .store) r ≡ true) where
+  -- a normal read that waits for the tail, or for the leader, which its delivery answers (crates/protocol/specs/Delivery.antt, `normalRead`)
+  module _ (r o x c : ℕ) (waits : NormalRead r o x c ∈ messages (m .waiting)) (answers : isReadReplica (m .store) r ≡ true) where
     abbrev table : ℕ
     table = tableOf (m .store) r
 
-    -- the object's stamp is the tail's
+    -- the object's stamp is what the visible writes leave
     stamp-is : stampAt (m .store) table x ≡ stamps (take (good-run b starts row xs .n) (good-run b starts row xs .log)) x
     stamp-is =
         let g = good-run b starts row xs in
         let begins = g .core .packets .fine (NormalRead r o x c) waits in
-        ap (λ (q : ℕ). stampAt (m .store) q x) (tail-table (m .store) r tail) ∙ stamp-tail (chain-held (g .replicas) .shown) x (g .books .ranged o (reads (x ∷ [])) begins x (here refl))
+        read-is (g .replicas) r answers x (g .books .ranged o (reads (x ∷ [])) begins x (here refl)) .1
 
     -- `old`: WHEN THE REPLY IS MADE, THE ORDER HAS NO SUCH WRITE
     pub old-before-write : freshness (stampAt (m .store) table x) c ≡ oldRead → Wrote x c es → ⊥

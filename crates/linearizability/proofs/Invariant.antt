@@ -1,6 +1,6 @@
 -- The invariant of the machine: its history has an order, its store shows the log, its waiting messages are fine, and its books agree with what happened.
 use mathlib.Core.Path.{_≡_, refl, sym, ap, _∙_, subst}
-use mathlib.Core.Bool.{true}
+use mathlib.Core.Bool.{true, false}
 use mathlib.Core.List.{List, [], _∷_, _++_}
 use mathlib.Core.Logic.{inl, inr}
 use Prim.Native.Nat.{ℕ, zero, suc, _+_, _≤_, _<_}
@@ -20,6 +20,10 @@ use Rattle.operations.specs.{isOpen, lastGiven}
 use Rattle.operations.proofs.Counted.{Counted}
 use Rattle.contexts.specs.{numbersOf}
 use Rattle.store.specs.declared.Write.{Write}
+use Rattle.store.specs.{isQuorum}
+use Rattle.chain.specs.{isMember, tableOf}
+use Rattle.quorum.specs.{loggedBy}
+use Rattle.lists.proofs.Tests.{untrue}
 use Rattle.joins.specs.{lastNumber}
 use Rattle.replicas.specs.Links.{entries}
 use Rattle.replicas.specs.Visible.{visibleCount, madeVisible}
@@ -28,7 +32,7 @@ use Rattle.waiting.proofs.Laws as waiting
 use Rattle.protocol.specs.declared.Answer.{Answer}
 use Rattle.protocol.specs.declared.Answer.the-variants.{Done, Finished, FinishedContext, Refused}
 use Rattle.protocol.specs.declared.Message.{Message}
-use Rattle.protocol.specs.declared.Message.the-variants.{UnstampedWrite, SwitchRead, StampedWrite, DirectRead, NormalRead, Completion, Reply, ContextRead, DirectContext, NormalContext, ContextReply, Unknown}
+use Rattle.protocol.specs.declared.Message.the-variants.{UnstampedWrite, SwitchRead, StampedWrite, DirectRead, NormalRead, Completion, Reply, ContextRead, DirectContext, NormalContext, ContextReply, Acknowledgement, Unknown}
 use Rattle.protocol.specs.declared.Refusal.{Refusal}
 use Rattle.protocol.specs.declared.Step.{Step}
 use Rattle.protocol.specs.Decisions.{Outcome, keeping, refusing}
@@ -36,8 +40,9 @@ use Rattle.protocol.specs.Steps.{Machine, machine, givenBy}
 use Rattle.log.proofs.Shows.{Shows}
 use Rattle.log.proofs.Places.{AtHead}
 use Rattle.log.proofs.Joined.{JoinInvariant}
+use Rattle.log.proofs.QuorumHolds.{QuorumHolds}
 use Rattle.protocol.specs.Roles.{Role, Reads, Writes, Delivers, Loses, Repeats, GivesUp, Removes, Copies, Other, roleOf}
-use Rattle.protocol.proofs.Effects.{Sort, Unstamped, Stamped, OfRow, Plain, sortOf}
+use Rattle.protocol.proofs.Effects.{Sort, Unstamped, Stamped, OfRow, Acknowledges, Plain, sortOf}
 use Rattle.linearizability.specs.Run.{begunCount, noted}
 use Rattle.linearizability.proofs.Noted.{notedAs, openNotedAs, noted-as}
 use Rattle.linearizability.proofs.Visible.{shows}
@@ -48,14 +53,19 @@ use Rattle.linearizability.proofs.Bounds.{UpTo}
 use Rattle.linearizability.proofs.Order.{finishOrder}
 use Rattle.linearizability.proofs.Waits.{messages, edited-nothing}
 
+-- Req 11: what an acknowledgement says is so: a replica of the quorum store has logged that many entries
+abbrev pub Acknowledged : List ℕ → ℕ → ℕ → Type 0
+Acknowledged s q k = (isQuorum s ≡ true) × (isMember s q ≡ true) × (k ≤ loggedBy s (tableOf s q))
+
 -- whom a waiting message is for: a stamped write for the present head or for a replica that is gone
 abbrev pub SortPlaced : List ℕ → Sort → Type 0
 SortPlaced s (Unstamped o) = Unit {0}
 SortPlaced s (Stamped r) = AtHead s r
 SortPlaced s (OfRow r) = Unit {0}
+SortPlaced s (Acknowledges q k) = Acknowledged s q k
 SortPlaced s Plain = Unit {0}
 
--- the replica that a message is for, by its number; 0 where it is for the switch or a client
+-- the replica that a message names, by its number: the one that it is for, or that sent an acknowledgement; 0 where it is for the switch or a client
 abbrev pub addressee : Message → ℕ
 addressee (UnstampedWrite o x v) = 0
 addressee (SwitchRead o x) = 0
@@ -68,6 +78,7 @@ addressee (ContextRead o r) = 0
 addressee (DirectContext q number c o r) = q
 addressee (NormalContext q o r) = q
 addressee (ContextReply o r) = 0
+addressee (Acknowledgement q k) = q
 addressee Unknown = 0
 
 -- and its number was given
@@ -126,6 +137,7 @@ ChainFine h es issued log n opens m = Fine oneChain h es issued (only (take n lo
 
 -- what holds of the replicas of a chain: log are the writes that the head has applied, and the tail has applied the first n
 pub record ChainHolds (s : List ℕ) (log : List Write) (n : ℕ) : Type 0 where
+  pub kind : isQuorum s ≡ false
   pub shown : Shows s log n
   -- the places of the replicas, and what a newcomer has
   pub joined : JoinInvariant s
@@ -133,9 +145,16 @@ pub record ChainHolds (s : List ℕ) (log : List Write) (n : ℕ) : Type 0 where
 -- what holds of the replicas, by the kind of store: the first n writes of the log are visible
 pub data ReplicasHold (s : List ℕ) (log : List Write) (n : ℕ) : Type 0 where
   in-chain : ChainHolds s log n → ReplicasHold s log n
+  in-quorum : QuorumHolds s log n → ReplicasHold s log n
 
-pub chain-held : {s : List ℕ} {log : List Write} {n : ℕ} → ReplicasHold s log n → ChainHolds s log n
-chain-held (in-chain k) = k
+module _ {s : List ℕ} {log : List Write} {n : ℕ} where
+  pub chain-held : isQuorum s ≡ false → ReplicasHold s log n → ChainHolds s log n
+  chain-held e (in-chain k) = k
+  chain-held e (in-quorum k) = untrue (sym e ∙ k .kind)
+
+  pub quorum-held : isQuorum s ≡ true → ReplicasHold s log n → QuorumHolds s log n
+  quorum-held e (in-chain k) = untrue (sym (k .kind) ∙ e)
+  quorum-held e (in-quorum k) = k
 
 -- es is the order; issued are the writes ever stamped
 pub record Good (m : Machine) (h : History) (es : List Entry) : Type 0 where
@@ -208,15 +227,25 @@ good-refused x {m} {h} {es} r g =
 
 -- ---- parts of the invariant
 
--- a message stays well placed while every write that waits for the head does
-pub placed-by : (s t : List ℕ) → lastNumber s ≤ lastNumber t → ((r : ℕ) → AtHead s r → AtHead t r) → (q : Message) → Placed s q → Placed t q
-placed-by s t l f q p = (go (sortOf q) (p .0), omega (arith, l, p .1))
+-- what a change of the store leaves so that every waiting message stays well placed
+pub record Keeps (s t : List ℕ) : Type 0 where
+  pub last : lastNumber s ≤ lastNumber t
+  pub heads : (r : ℕ) → AtHead s r → AtHead t r
+  pub acknowledged : (q k : ℕ) → Acknowledged s q k → Acknowledged t q k
+
+pub placed-by : {s t : List ℕ} → Keeps s t → (q : Message) → Placed s q → Placed t q
+placed-by {s} {t} f q p = (go (sortOf q) (p .0), omega (arith, f .last, p .1))
   where
     go : (k : Sort) → SortPlaced s k → SortPlaced t k
     go (Unstamped o) p = p
-    go (Stamped r) p = f r p
+    go (Stamped r) p = f .heads r p
     go (OfRow r) p = p
+    go (Acknowledges q k) p = f .acknowledged q k p
     go Plain p = p
+
+-- in a chain no acknowledgement waits
+pub chain-keeps : {s t : List ℕ} → isQuorum s ≡ false → lastNumber s ≤ lastNumber t → ((r : ℕ) → AtHead s r → AtHead t r) → Keeps s t
+chain-keeps e last heads = record { last = last; heads = heads; acknowledged = λ q k a. untrue (sym e ∙ a .0) }
 
 -- the messages of a list that lost one, and of one that gained one
 pub posted-lost : {s : List ℕ} (a : List Message) (p : Message) (b : List Message) → ((q : Message) → q ∈ a ++ p ∷ b → Placed s q) → (q : Message) → q ∈ a ++ b → Placed s q

@@ -11,9 +11,11 @@ pub mod Bounds
 pub mod Waits
 pub mod Invariant
 pub mod SwitchLaws
+pub mod QuorumReads
 pub mod Replicas
 pub mod Deliveries
 pub mod ChainMoves
+pub mod QuorumMoves
 pub mod Messages
 pub mod Steps
 pub mod OneOrder
@@ -28,3 +30,5 @@ pub mod NewTail
 pub mod GivenNumbers
 pub mod Removal
 pub mod OwnCompletion
+pub mod QuorumRuns
+pub mod QuorumListing

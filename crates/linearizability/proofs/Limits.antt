@@ -3,7 +3,7 @@
 use mathlib.Core.Path.{_≡_, refl, ap, _∙_}
 use mathlib.Core.Bool.{true, false}
 use mathlib.Core.List.{List, [], _∷_}
-use Prim.Native.Nat.{ℕ, _+_, _≤_, _<_}
+use Prim.Native.Nat.{ℕ, _+_, _*_, _≤_, _<_}
 use native.Mathlib.Omega.{arith}
 use lib.ListN.{length, length-append}
 use Rattle.limits.specs as limits
@@ -16,8 +16,9 @@ use Rattle.operations.proofs.Laws as operations
 use Rattle.stamp.specs.Stamps.{isAbove}
 use Rattle.stamp.proofs.Laws.{above-true}
 use Rattle.store.specs.declared.Write.{Write}
-use Rattle.store.specs.{highestOf, appliedBy}
+use Rattle.store.specs.{highestOf, appliedBy, isQuorum}
 use Rattle.chain.specs.{headOf, isLive, isMember, tableOf}
+use Rattle.chain.proofs.Members.{live-in}
 use Rattle.replicas.specs.Replicas.{linkedWrites}
 use Rattle.waiting.specs.declared.Packet.{Packet}
 use Rattle.waiting.specs.Waiting.{held}
@@ -30,12 +31,14 @@ use Rattle.protocol.specs.Steps.{Machine, after, steppedBy, started}
 use Rattle.log.proofs.Log.{top}
 use Rattle.log.proofs.Shows.{applied-between, head-highest, linked-is}
 use Rattle.log.proofs.Tables.{at-head-first}
+use Rattle.log.proofs.Quorum.{executed-low}
+use Rattle.log.proofs.QuorumHolds.{QuorumHolds}
 use Rattle.linearizability.specs.Run.{historyFrom, historyOf}
 use Rattle.linearizability.proofs.Packets.{unstamped, unstamped-in}
 use Rattle.linearizability.proofs.Bounds.{log-bounded}
 use Rattle.linearizability.proofs.Logged.{logged-accept}
 use Rattle.linearizability.proofs.Waits.{messages}
-use Rattle.linearizability.proofs.Invariant.{ChainHolds, chain-held, Good}
+use Rattle.linearizability.proofs.Invariant.{ChainHolds, ReplicasHold, in-chain, in-quorum, chain-held, quorum-held, Good}
 use Rattle.linearizability.proofs.OneOrder.{orderFrom, good-start, good-after}
 
 -- the machine reached by these steps, from m and from the empty store that a start gives
@@ -51,14 +54,22 @@ pub good-reached : {m : Machine} {h : History} {es : List Entry} → Good m h es
 good-reached g [] = g
 good-reached g (x ∷ xs) = good-reached (good-after g x) xs
 
+-- how many writes a live replica has applied, or executed
+applied-most : {s : List ℕ} {log : List Write} {n : ℕ} → ReplicasHold s log n → n ≤ length log → (r : ℕ) → isLive s r ≡ true → appliedBy s r ≤ length log
+applied-most (in-chain k) fits r live = applied-between (k .shown) r live .1
+applied-most {s} (in-quorum k) fits r live = omega (arith, executed-low (k .shown) r (live-in s r live), fits)
+
 -- FOR EVERY START THAT IS NOT REFUSED, EVERY LENT ROW OF PLACES AND EVERY LIST OF STEPS, refused ones included
 module _ (b : Setup) (starts : startRefused b ≡ false) (row : List Packet) (xs : List Step) where
   pub good-run : Good (machineOf b row xs) (historyOf b row xs) (orderFrom (started b row) [] [] xs)
   good-run = good-reached (good-start b starts row) xs
 
-  -- what holds of its replicas
-  pub held-run : ChainHolds (machineOf b row xs .store) (good-run .log) (good-run .n)
-  held-run = chain-held (good-run .replicas)
+  -- what holds of its replicas, in a chain and in a quorum store
+  pub held-run : isQuorum (machineOf b row xs .store) ≡ false → ChainHolds (machineOf b row xs .store) (good-run .log) (good-run .n)
+  held-run chain = chain-held chain (good-run .replicas)
+
+  pub quorum-run : isQuorum (machineOf b row xs .store) ≡ true → QuorumHolds (machineOf b row xs .store) (good-run .log) (good-run .n)
+  quorum-run quorum = quorum-held quorum (good-run .replicas)
 
   -- 'at most 64 packets', and the count that a step hands back is how many wait
   pub waiting-within : held (machineOf b row xs .waiting) ≤ 64
@@ -68,8 +79,8 @@ module _ (b : Setup) (starts : startRefused b ≡ false) (row : List Packet) (xs
   count-is = waiting.exact-held (machineOf b row xs .waiting) (good-run .exact)
 
   -- 'All links together hold at most 64 writes'
-  pub linked-within : linkedWrites (machineOf b row xs .store) ≤ 64
-  linked-within = omega (arith, linked-is (held-run .shown), held-run .shown .room)
+  pub linked-within : isQuorum (machineOf b row xs .store) ≡ false → linkedWrites (machineOf b row xs .store) ≤ 64
+  linked-within chain = omega (arith, linked-is (held-run chain .shown), held-run chain .shown .room)
 
   -- 'at most 64 are open', none twice, and there is a cell for each
   pub open-within : openCount (machineOf b row xs .opens) ≤ 64
@@ -104,17 +115,17 @@ module _ (b : Setup) (starts : startRefused b ≡ false) (row : List Packet) (xs
   -- a live replica has applied no more writes than there are operations ..
   pub positions-within : (r : ℕ) → isLive (machineOf b row xs .store) r ≡ true → appliedBy (machineOf b row xs .store) r ≤ lastGiven (machineOf b row xs .opens)
   positions-within r live =
-      omega (arith, applied-between (held-run .shown) r live .1, log-bounded (good-run .core .visible) (good-run .books .bounded) (good-run .logged), good-run .books .numbered)
+      omega (arith, applied-most (good-run .replicas) (good-run .logged .fits) r live, log-bounded (good-run .core .visible) (good-run .books .bounded) (good-run .logged), good-run .books .numbered)
 
   -- .. and before it takes a write, fewer than that: the test of the log's last position turns no write down in a run
-  pub position-never-out : (r : ℕ) (w : Write) → StampedWrite r w ∈ messages (machineOf b row xs .waiting) → isMember (machineOf b row xs .store) r ≡ true
+  pub position-never-out : isQuorum (machineOf b row xs .store) ≡ false → (r : ℕ) (w : Write) → StampedWrite r w ∈ messages (machineOf b row xs .waiting) → isMember (machineOf b row xs .store) r ≡ true
       → isAbove (w .stamp) (highestOf (machineOf b row xs .store) (tableOf (machineOf b row xs .store) r)) ≡ true
       → appliedBy (machineOf b row xs .store) (tableOf (machineOf b row xs .store) r) < limits.lastPosition
-  position-never-out r w i member above =
+  position-never-out chain r w i member above =
       let g = good-run in
       let s = machineOf b row xs .store in
       let first : tableOf s r ≡ headOf s = at-head-first s r (g .posted (StampedWrite r w) i .0) member in
-      let highest : highestOf s (tableOf s r) ≡ top 0 (g .log) = ap (highestOf s) first ∙ head-highest (chain-held (g .replicas) .shown) in
+      let highest : highestOf s (tableOf s r) ≡ top 0 (g .log) = ap (highestOf s) first ∙ head-highest (held-run chain .shown) in
       let later = logged-accept (g .logged) w (g .core .packets .fine (StampedWrite r w) i) refl (omega (arith, highest, above-true (w .stamp) (highestOf s (tableOf s r)) above)) in
       omega (
         arith,
@@ -123,5 +134,5 @@ module _ (b : Setup) (starts : startRefused b ≡ false) (row : List Packet) (xs
         log-bounded (g .core .visible) (g .books .bounded) later,
         length-append (g .log) (w ∷ []),
         ap (appliedBy s) first,
-        chain-held (g .replicas) .shown .head-has,
+        held-run chain .shown .head-has,
       )

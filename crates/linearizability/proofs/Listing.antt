@@ -14,8 +14,8 @@ use Rattle.protocol.specs.Messages.{packetOf, contextMessage, messageOf, isUnst
 use Rattle.protocol.specs.Decisions.{refusing, dropping, passing, overfull}
 use Rattle.protocol.specs.Contexts as Rules
 use Rattle.protocol.specs.Reads as Directly
-use Rattle.protocol.specs.Delivery.{stamping, unstampedWrite, switchRead, stampedWrite, directRead, normalRead, completion, reply, deliveredMessage}
-use Rattle.protocol.specs.Steps.{isSound, asking, beginOperation, beginContext, delivered, advancing, removing, givingUp, positionOf, decided, isMalformed, decidedIn, answerTo, after as next, Machine, steppedBy, started}
+use Rattle.protocol.specs.Delivery.{stamping, unstampedWrite, switchRead, chainWrite, leaderWrite, stampedWrite, acknowledgement, directRead, normalRead, completion, reply, deliveredMessage}
+use Rattle.protocol.specs.Steps.{isSound, asking, beginOperation, beginContext, delivered, chainAdvancing, followerAdvancing, advancing, executingOn, removing, givingUp, positionOf, decided, isMalformed, decidedIn, answerTo, after as next, Machine, steppedBy, started}
 use Rattle.waiting.specs.declared.Packet.{Packet}
 use Rattle.waiting.specs.Waiting.{blank, heldIn, noneWait, lookAt, takesOut, leftBy, fits, afterTaking, adding, edited}
 use Rattle.lists.specs.{moves, indexOf, listOf, allOf}
@@ -102,7 +102,7 @@ pub record Computed : Type 0 where
   pub several-marks : marksAlong (started (ChainOf 1) row) several-run ≡ 0 ∷ 0 ∷ 0 ∷ 1 ∷ 2 ∷ 3 ∷ 3 ∷ 0 ∷ []
 
 pub computed : Computed
-unfolding packetOf Rules.hasRow isSound isOfContext isContextReply Directly.isUnmarked Directly.goesDirectly Chain.isReadPlace Chain.isReadReplica Chain.readReplicaNumber Chain.readReplicaOf Joins.isJoinSet Replicas.isNotAbove Visible.visibleCount Visible.madeVisible contextMessage messageOf isUnstamped Contexts.placeOf Contexts.sizeOf Contexts.numbersOf Contexts.keptAt Contexts.mapped Contexts.isCount Contexts.isObject Contexts.areObjects Contexts.standsFirst Contexts.areDifferent Contexts.isContext Contexts.emptyAt Contexts.isNaming Contexts.rowCell Contexts.sizeAt Contexts.numberAt Contexts.contextAt Contexts.freeRow Contexts.puts Contexts.holding Contexts.freeing Rules.contextRead Rules.answeringContext Rules.normalContext Rules.contextReply beginContext refusing dropping passing overfull stamping unstampedWrite switchRead stampedWrite directRead normalRead completion reply deliveredMessage asking beginOperation delivered advancing removing givingUp positionOf decided isMalformed decidedIn answerTo next started heldIn noneWait lookAt takesOut leftBy fits afterTaking adding edited moves indexOf listOf openCount openNumbers lastGiven noneOpen openPlace isOpen roomToOpen opening closing stampOf numberOf counterOf isAbove largerOf numberIn counterIn committedIn directIn slotObject slotStamp firstSlot secondSlot thirdSlot holdsObject countsAbove isFree holdsAbove freeSlot slotFor markAbove lookedUp nextStamp lessOne oneMore marksFor marking canMark marked stampFor countedTo countedMarks isCompleted clearedAt isOwn raising committing completed newSwitch marksIn Chain.chainPlace Chain.isLive Chain.memberAt Chain.headOf Chain.tailOf Chain.numbers Chain.placeOf Chain.isMember Chain.isTail Chain.tableOf Chain.numberIn Chain.headNumber Chain.tailNumber Chain.chosenBy allOf Chain.permits Chain.allPermit Chain.removed Chain.emptyCells Chain.numbered Chain.emptyStore Links.entries has objectsOf finishOrder Joins.isJoining Joins.copiesMade Joins.newcomer Joins.isCopied Joins.handingOn Joins.joinEnded Joins.without Cells.entryCell Cells.valueCell Cells.stampCell Cells.entryStampCell stampIn setStamp Cells.storeCells Cells.liveCount Cells.orderAt Cells.numberAt Cells.members Cells.rowOf Cells.highestOf Cells.permittedBy Cells.appliedBy Cells.entryAt Cells.valueAt Cells.stampAt Cells.logged Cells.tabled Cells.raised Replicas.linkedWrites Replicas.accepts Replicas.nextPosition Replicas.applying Replicas.taking Replicas.pendingAt Replicas.pending Replicas.oldest Replicas.answersDirect
+unfolding Cells.isQuorum chainWrite chainAdvancing Directly.answersRead packetOf Rules.hasRow isSound isOfContext isContextReply Directly.isUnmarked Directly.goesDirectly Chain.isReadPlace Chain.isReadReplica Chain.readReplicaNumber Chain.readReplicaOf Joins.isJoinSet Replicas.isNotAbove Visible.visibleCount Visible.madeVisible contextMessage messageOf isUnstamped Contexts.placeOf Contexts.sizeOf Contexts.numbersOf Contexts.keptAt Contexts.mapped Contexts.isCount Contexts.isObject Contexts.areObjects Contexts.standsFirst Contexts.areDifferent Contexts.isContext Contexts.emptyAt Contexts.isNaming Contexts.rowCell Contexts.sizeAt Contexts.numberAt Contexts.contextAt Contexts.freeRow Contexts.puts Contexts.holding Contexts.freeing Rules.contextRead Rules.answeringContext Rules.normalContext Rules.contextReply beginContext refusing dropping passing overfull stamping unstampedWrite switchRead stampedWrite directRead normalRead completion reply deliveredMessage asking beginOperation delivered advancing removing givingUp positionOf decided isMalformed decidedIn answerTo next started heldIn noneWait lookAt takesOut leftBy fits afterTaking adding edited moves indexOf listOf openCount openNumbers lastGiven noneOpen openPlace isOpen roomToOpen opening closing stampOf numberOf counterOf isAbove largerOf numberIn counterIn committedIn directIn slotObject slotStamp firstSlot secondSlot thirdSlot holdsObject countsAbove isFree holdsAbove freeSlot slotFor markAbove lookedUp nextStamp lessOne oneMore marksFor marking canMark marked stampFor countedTo countedMarks isCompleted clearedAt isOwn raising committing completed newSwitch marksIn Chain.chainPlace Chain.isLive Chain.memberAt Chain.headOf Chain.tailOf Chain.numbers Chain.placeOf Chain.isMember Chain.isTail Chain.tableOf Chain.numberIn Chain.headNumber Chain.tailNumber Chain.chosenBy allOf Chain.permits Chain.allPermit Chain.removed Chain.emptyCells Chain.numbered Chain.emptyStore Links.entries has objectsOf finishOrder Joins.isJoining Joins.copiesMade Joins.newcomer Joins.isCopied Joins.handingOn Joins.joinEnded Joins.without Cells.entryCell Cells.valueCell Cells.stampCell Cells.entryStampCell stampIn setStamp Cells.storeCells Cells.liveCount Cells.orderAt Cells.numberAt Cells.members Cells.rowOf Cells.highestOf Cells.permittedBy Cells.appliedBy Cells.entryAt Cells.valueAt Cells.stampAt Cells.logged Cells.tabled Cells.raised Replicas.linkedWrites Replicas.accepts Replicas.nextPosition Replicas.applying Replicas.taking Replicas.pendingAt Replicas.pending Replicas.oldest Replicas.answersDirect
 computed = record { listing-history = refl; listing-order = refl; tail-removed = refl; tail-removed-order = refl; head-removed = refl; overtaken-order = refl; context-history = refl; context-order = refl; context-points = refl; several-marks = refl }
 
 -- a machine that drops every packet finishes nothing: the listing's history is not its history

@@ -20,36 +20,38 @@ use Rattle.switch.specs.DirtySet.{lookedUp, marked, stampFor, completed}
 use Rattle.switch.proofs.Laws.{SizedSwitch, marked-committed, marked-counter, completed-committed, completed-counter}
 use Rattle.operations.specs.{isOpen}
 use Rattle.store.specs.declared.Write.{Write}
-use Rattle.store.specs.{valueAt, stampAt}
+use Rattle.store.specs.{valueAt, stampAt, isQuorum}
 use Rattle.chain.specs.{isMember, isTail, tableOf, headNumber, chosenBy, allPermit}
-use Rattle.replicas.specs.Replicas.{accepts, answersDirect}
+use Rattle.replicas.specs.Replicas.{accepts}
+use Rattle.quorum.specs.{logs}
 use Rattle.chain.proofs.Numbers.{table-live, tail-table}
 use Rattle.waiting.specs.Waiting.{held}
 use Rattle.protocol.specs.Answers.{noFreshness}
 use Rattle.protocol.specs.declared.Decision.{Decision}
 use Rattle.protocol.specs.declared.Message.{Message}
-use Rattle.protocol.specs.declared.Message.the-variants.{UnstampedWrite, SwitchRead, StampedWrite, DirectRead, NormalRead, Completion, Reply, ContextRead, DirectContext, NormalContext, ContextReply, Unknown}
+use Rattle.protocol.specs.declared.Message.the-variants.{UnstampedWrite, SwitchRead, StampedWrite, DirectRead, NormalRead, Completion, Reply, ContextRead, DirectContext, NormalContext, ContextReply, Acknowledgement, Unknown}
 use Rattle.protocol.specs.declared.Refusal.the-variants.{WaitingFull}
 use Rattle.protocol.specs.declared.Step.the-variants.{Deliver}
-use Rattle.protocol.specs.Decisions.{Switched, Stored, Opened, switched, keeping, changingSwitch, changingStore, changingOpens, overfull}
+use Rattle.protocol.specs.Decisions.{Switched, Stored, Opened, switched, stored, dropping, keeping, changingSwitch, changingStore, changingOpens, overfull}
 use Rattle.protocol.specs.Contexts.{contextRead, directContext, normalContext, contextReply}
-use Rattle.protocol.specs.Delivery.{stamping, unstampedWrite, switchRead, stampedWrite, directRead, freshness, normalRead, completion, reply, deliveredMessage}
+use Rattle.protocol.specs.Delivery.{stamping, unstampedWrite, switchRead, chainWrite, leaderWrite, stampedWrite, acknowledgement, directRead, freshness, normalRead, completion, reply, deliveredMessage}
 use Rattle.protocol.specs.Steps.{Machine, givenBy}
 use Rattle.protocol.proofs.Freshness.{new-from}
 use Rattle.log.proofs.Log.{stamps}
 use Rattle.log.proofs.Tables.{at-head-first, table-not-tail}
 use Rattle.linearizability.proofs.Logged.{logged-stamp}
 use Rattle.linearizability.proofs.Packets.{rowNumbers, Direct}
-use Rattle.linearizability.proofs.Core.{core-direct, core-normal, context-now, core-passes, core-commit, core-stamp}
+use Rattle.linearizability.proofs.Core.{core-normal, context-now, core-passes, core-commit, core-stamp}
 use Rattle.linearizability.proofs.Waits.{front, back, Stands}
 use Rattle.linearizability.proofs.SwitchLaws.{unmarked-low, holds-completed, holds-dropped, holds-marked}
 use Rattle.linearizability.proofs.Invariant.{oneChain, only, ChainCore, Good, good-refused}
 use Rattle.chain.specs.{isReadReplica, readReplicaNumber}
-use Rattle.protocol.specs.Reads.{isUnmarked, goesDirectly}
-use Rattle.linearizability.proofs.Invariant.{ReplicasHold, in-chain}
-use Rattle.linearizability.proofs.Replicas.{sent-placed, chosen-given, read-given, read-is, answered-is}
-use Rattle.linearizability.proofs.Deliveries.{After, rest, whole, fine, placed, lost, fewer, good-switched, good-passed, good-answered, good-sent, good-moved, good-values, good-freed, good-dropped, good-finished, good-context, good-ignored, direct-low, visible-given, not-later}
+use Rattle.protocol.specs.Reads.{isUnmarked, goesDirectly, answersRead}
+use Rattle.linearizability.proofs.Invariant.{ReplicasHold, in-chain, in-quorum, quorum-held}
+use Rattle.linearizability.proofs.Replicas.{sent-placed, chosen-given, read-given, read-is, direct-answered, context-answered}
+use Rattle.linearizability.proofs.Deliveries.{After, rest, whole, fine, placed, lost, fewer, good-switched, good-passed, good-answered, good-sent, good-moved, good-values, good-freed, good-dropped, good-finished, good-context, good-ignored, visible-given, not-later}
 use Rattle.linearizability.proofs.ChainMoves.{good-taken, good-taken-lone}
+use Rattle.linearizability.proofs.QuorumMoves.{good-logged, good-heard}
 
 -- a read that goes directly: direct reads are on, and none of its objects has a counting mark
 goes-on : (w xs : List ℕ) → goesDirectly w xs ≡ true → directIn w ≡ true
@@ -69,7 +71,7 @@ direct-passes {m} g o xs clean =
 
 pub good-message : {m : Machine} {h : History} {es : List Entry} (g : Good m h es) {at : ℕ} (choice : ℕ) (msg : Message) (i : Stands (m .waiting) at msg)
     → After g choice i (deliveredMessage (givenBy m) at choice msg)
-unfolding deliveredMessage stamping unstampedWrite switchRead stampedWrite directRead normalRead completion contextRead directContext normalContext contextReply rest
+unfolding deliveredMessage stamping unstampedWrite switchRead chainWrite leaderWrite stampedWrite acknowledgement directRead normalRead completion contextRead directContext normalContext contextReply rest
 good-message {m} {h} {es} g {at} choice (UnstampedWrite o x v) i =
     by-test (λ (u : Switched). After g choice i (changingSwitch (givenBy m) u)) (allPermit (m .store) (numberIn (m .switch)))
     (λ e. by-test (λ (d : Decision). After g choice i (changingSwitch (givenBy m) (switched d (marked (m .switch) x)))) (eqb (stampFor (m .switch) x) 0)
@@ -99,8 +101,14 @@ good-message {m} {h} {es} g {at} choice (StampedWrite r w) i = go (g .replicas)
     P u = After g choice i (changingStore (givenBy m) u)
 
     go : ReplicasHold (m .store) (g .log) (g .n) → P (stampedWrite (m .store) (held (m .waiting)) at r w)
+    go (in-quorum k) =
+        rw (k .kind)
+        (by-test (λ (s : List ℕ). P (stored (dropping at) s)) (logs (m .store) (w .stamp))
+        (λ accepted. good-logged g k choice i w accepted (fine g choice i))
+        (λ old. good-dropped g choice i))
     go (in-chain k) =
-        by-test P (isMember (m .store) r)
+        rw (k .kind)
+        (by-test P (isMember (m .store) r)
         (λ member. by-test P (accepts (m .store) (tableOf (m .store) r) (w .stamp))
         (λ taken.
         let table = tableOf (m .store) r in
@@ -112,12 +120,12 @@ good-message {m} {h} {es} g {at} choice (StampedWrite r w) i = go (g .replicas)
         (λ roomy. good-taken-lone g k choice i table w taken first known (tail-table (m .store) r e) roomy))
         (λ e. good-taken g k choice i table w taken first known (table-not-tail (m .store) r (k .shown .falls) member e)))
         (λ e. good-dropped g choice i))
-        (λ gone. good-dropped g choice i)
+        (λ gone. good-dropped g choice i))
 good-message {m} {h} {es} g {at} choice (DirectRead r number t o x) i =
     by-test P (isMember (m .store) r)
-    (λ member. by-test P (answersDirect (m .store) table number t (x ∷ []))
+    (λ member. by-test P (answersRead (m .store) table number t (x ∷ []))
     (λ yes'. good-answered g choice i (Reply o (valueAt (m .store) table x) 0 noFreshness)
-    (core-direct (lost g choice i) o x (valueAt (m .store) table x) (f .0) (answered-is (g .replicas) (g .logged) table number t (x ∷ []) (table-live (m .store) r member) yes' (direct-low (f .1)) x (here refl) small)) (tt, omega arith) refl)
+    (direct-answered (lost g choice i) (g .logged) table number t o (table-live (m .store) r member) (g .replicas) x yes' small f) (tt, omega arith) refl)
     (λ no'. good-sent g choice i (NormalRead (readReplicaNumber (m .store)) o x 0) (f .0) (λ p q. q) (λ p q. q) (tt, read-given (g .replicas))))
     (λ gone. good-dropped g choice i)
   where
@@ -178,10 +186,9 @@ good-message {m} {h} {es} g {at} choice (ContextRead o r) i =
     (λ dirty. good-moved g choice i r refl (NormalContext (readReplicaNumber (m .store)) o r) (fine g choice i) (λ p q. q) (λ s e. sym e) (tt, read-given (g .replicas)))
 good-message {m} {h} {es} g {at} choice (DirectContext q number t o r) i =
     by-test P (isMember (m .store) q)
-    (λ member. by-test P (answersDirect (m .store) table number t xs)
+    (λ member. by-test P (answersRead (m .store) table number t xs)
     (λ yes'. good-values g choice i r refl table o
-    (context-now (g .core) o 0 xs (valueAt (m .store) table) (f .0) (λ x j. refl)
-    (λ x j. answered-is (g .replicas) (g .logged) table number t xs (table-live (m .store) q member) yes' (direct-low (f .1)) x j (g .books .ranged o (reads xs) (f .0) x j))))
+    (context-answered (g .core) (g .logged) table number t o (table-live (m .store) q member) (g .replicas) xs yes' (g .books .ranged o (reads xs) (f .0)) f))
     (λ no'. good-moved g choice i r refl (NormalContext (readReplicaNumber (m .store)) o r) (f .0) (λ p q. q) (λ s e. sym e) (tt, read-given (g .replicas))))
     (λ gone. good-freed g choice i r refl)
   where
@@ -214,4 +221,7 @@ good-message {m} {h} {es} g {at} choice (ContextReply o r) i =
     by-test (λ (u : Opened). After g choice i (changingOpens (givenBy m) u)) (isOpen (m .opens) o)
     (λ still. good-context g choice i o r refl still)
     (λ shut. good-freed g choice i r refl)
+good-message {m} {h} {es} g {at} choice (Acknowledgement q j) i =
+    let p = placed g choice i .0 in
+    rw (p .0, p .1) (good-heard g (quorum-held (p .0) (g .replicas)) choice i q j (p .1) (p .2))
 good-message {m} {h} {es} g {at} choice Unknown i = good-dropped g choice i

@@ -5,7 +5,7 @@ use Prim.Native.Nat.{ℕ}
 use Rattle.history.specs.History.{reads, writes, History}
 use Rattle.protocol.specs.declared.Answer.{Answer}
 use Rattle.protocol.specs.declared.Step.{Step}
-use Rattle.protocol.specs.declared.Step.the-variants.{Start, BeginRead, BeginWrite, Deliver, Lose, Repeat, Advance, Replace, Tell, Remove, GiveUp, BeginContext, Join, Copy}
+use Rattle.protocol.specs.declared.Step.the-variants.{Start, BeginRead, BeginWrite, Deliver, Lose, Repeat, Advance, Replace, Tell, Remove, GiveUp, BeginContext, Join, Copy, Execute}
 use Rattle.protocol.specs.Roles.{Role, Reads, Writes, Delivers, Loses, Repeats, GivesUp, Removes, Copies, Other, roleOf}
 use Rattle.linearizability.specs.Run.{beginning, ending, noted, openBegun, openEnded, openGivenUp, openNoted}
 
@@ -46,3 +46,4 @@ noted-as (GiveUp o) a h l = (refl, refl)
 noted-as (BeginContext x) a h l = (refl, refl)
 noted-as Join a h l = (refl, refl)
 noted-as Copy a h l = (refl, refl)
+noted-as Execute a h l = (refl, refl)

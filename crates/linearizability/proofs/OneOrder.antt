@@ -19,20 +19,22 @@ use Rattle.waiting.specs.declared.Packet.{Packet}
 use Rattle.waiting.specs.Waiting.{noneWait}
 use Rattle.waiting.proofs.Laws.{waits-none, exact-none}
 use Rattle.protocol.specs.declared.Setup.{Setup}
-use Rattle.protocol.specs.declared.Setup.the-variants.{Missing, Chain}
+use Rattle.protocol.specs.declared.Setup.the-variants.{Missing, Chain, Quorum}
 use Rattle.protocol.specs.Starts.{startRefused}
-use Rattle.protocol.proofs.Refusals.{start-accepted}
+use Rattle.protocol.proofs.Refusals.{start-accepted, quorum-accepted}
 use Rattle.protocol.specs.declared.Step.{Step}
-use Rattle.protocol.specs.Steps.{Machine, answerTo, after, started}
+use Rattle.protocol.specs.Steps.{Machine, machine, answerTo, after, newStore, started}
 use Rattle.log.proofs.Shows.{shows-start}
 use Rattle.log.proofs.Joined.{joined-start}
+use Rattle.log.proofs.StoreKind.{kind-start}
+use Rattle.log.proofs.QuorumHolds.{quorum-holds-start}
 use Rattle.linearizability.specs.Run.{noted, historyFrom, historyOf}
 use Rattle.linearizability.proofs.Visible.{noneShown}
 use Rattle.linearizability.proofs.Logged.{logged-start}
 use Rattle.linearizability.proofs.Core.{Core, core-start}
 use Rattle.linearizability.proofs.Waits.{messages}
 use Rattle.linearizability.proofs.SwitchLaws.{holds-new}
-use Rattle.linearizability.proofs.Invariant.{oneChain, only, in-chain, Good, orderNext}
+use Rattle.linearizability.proofs.Invariant.{oneChain, only, ReplicasHold, in-chain, in-quorum, Good, orderNext}
 use Rattle.linearizability.proofs.Deliveries.{good-of}
 use Rattle.linearizability.proofs.Steps.{good-step}
 
@@ -56,12 +58,19 @@ core-begins = subst (λ (f : ℕ → List Write). Core oneChain [] [] [] f [] (�
     empty zero = refl
     empty (suc d) = refl
 
-pub good-start : (b : Setup) → startRefused b ≡ false → (row : List Packet) → Good (started b row) [] []
-unfolding started startRefused
-good-start Missing starts row = untrue (sym starts)
-good-start (Chain n) starts row =
+-- the replicas of a start that is not refused
+start-holds : (b : Setup) → startRefused b ≡ false → ReplicasHold (newStore b) [] 0
+unfolding startRefused
+start-holds Missing starts = untrue (sym starts)
+start-holds (Chain n) starts =
     let fits = start-accepted n .0 starts in
-    good-of [] [] 0 [] (no-messages row) (subst (λ (f : ℕ → ℕ). Core oneChain [] [] [] (only []) [] f noneOpen) (λ j d. sym (new-committed 1) j) core-begins) logged-start (in-chain (record { shown = shows-start n (fits .0) (fits .1); joined = joined-start n (fits .1) })) (λ p m. absurd (no-member m))
+    in-chain (record { kind = kind-start n; shown = shows-start n (fits .0) (fits .1); joined = joined-start n (fits .1) })
+start-holds (Quorum n) starts = let fits = quorum-accepted n starts in in-quorum (quorum-holds-start n (omega (arith, fits .0)) (omega (arith, fits .1)))
+
+pub good-start : (b : Setup) → startRefused b ≡ false → (row : List Packet) → Good (started b row) [] []
+unfolding started
+good-start b starts row =
+    good-of [] [] 0 [] (no-messages row) (subst (λ (f : ℕ → ℕ). Core oneChain [] [] [] (only []) [] f noneOpen) (λ j d. sym (new-committed 1) j) core-begins) logged-start (start-holds b starts) (λ p m. absurd (no-member m))
     (record {
       open-numbers = counted-none;
       opened = λ o e. absurd (none-open o e);

@@ -19,9 +19,9 @@ use Rattle.contexts.proofs.Places.{count-some}
 use Rattle.contexts.proofs.Rows.{Apart, size-is}
 use Rattle.store.specs.declared.Write.{Write}
 use Rattle.protocol.specs.Answers.{newRead}
-use Rattle.protocol.proofs.Effects.{Sort, Unstamped, Stamped, OfRow, Plain, sortOf, Names}
+use Rattle.protocol.proofs.Effects.{Sort, Unstamped, Stamped, OfRow, Acknowledges, Plain, sortOf, Names}
 use Rattle.protocol.specs.declared.Message.{Message}
-use Rattle.protocol.specs.declared.Message.the-variants.{UnstampedWrite, SwitchRead, StampedWrite, DirectRead, NormalRead, Completion, Reply, ContextRead, DirectContext, NormalContext, ContextReply, Unknown}
+use Rattle.protocol.specs.declared.Message.the-variants.{UnstampedWrite, SwitchRead, StampedWrite, DirectRead, NormalRead, Completion, Reply, ContextRead, DirectContext, NormalContext, ContextReply, Acknowledgement, Unknown}
 use Rattle.linearizability.proofs.Visible.{Wrote}
 
 -- a reply of operation o, with value v, carried stamp c and freshness f: o is in the order with that value, and the reply is not `new`; or it is a read that can be put into
@@ -64,6 +64,7 @@ Fine chain h es issued shown opens (ContextRead o r) = begun o (reads (rowNumber
 Fine chain h es issued shown opens (DirectContext q number c o r) = (begun o (reads (rowNumbers opens r)) ∈ h) × Direct chain h es shown c o (rowNumbers opens r)
 Fine chain h es issued shown opens (NormalContext q o r) = begun o (reads (rowNumbers opens r)) ∈ h
 Fine chain h es issued shown opens (ContextReply o r) = AnsweredContext h es o (rowNumbers opens r)
+Fine chain h es issued shown opens (Acknowledgement q k) = Unit {0}
 Fine chain h es issued shown opens Unknown = Unit {0}
 
 -- the message is the unstamped write of operation p
@@ -71,6 +72,7 @@ abbrev pub SortAsks : Sort → ℕ → Type 0
 SortAsks (Unstamped o) p = o ≡ p
 SortAsks (Stamped r) p = ⊥
 SortAsks (OfRow r) p = ⊥
+SortAsks (Acknowledges q k) p = ⊥
 SortAsks Plain p = ⊥
 
 abbrev pub Asks : Message → ℕ → Type 0
@@ -159,6 +161,7 @@ module _ {chain : ℕ → ℕ} {h : History} {es : List Entry} {issued : List Wr
   fine-grows g opens (NormalContext q o r) f = g .events _ f
   fine-grows g opens (ContextReply o r) f =
       (f .0, g .events _ (f .1), f .2, g .reading o (f .0) (rowNumbers opens r) (f .2) (reads (f .0), f .1) (f .3))
+  fine-grows g opens (Acknowledgement q k) f = tt
   fine-grows g opens Unknown f = tt
 
 module _ {chain : ℕ → ℕ} {h : History} {es : List Entry} {issued : List Write} {shown : ℕ → List Write} {opens : List ℕ} where
@@ -181,6 +184,7 @@ module _ {chain : ℕ → ℕ} {h : History} {es : List Entry} {issued : List Wr
   packets-begun p (DirectContext b number c q r) i a = absurd a
   packets-begun p (NormalContext b q r) i a = absurd a
   packets-begun p (ContextReply q r) i a = absurd a
+  packets-begun p (Acknowledgement b k) i a = absurd a
   packets-begun p Unknown i a = absurd a
 
   -- ---- messages leave the list and join it
@@ -272,6 +276,7 @@ module _ (chain : ℕ → ℕ) (h : History) (es : List Entry) (issued : List Wr
   fine-rows (DirectContext q number c o r) same f = (moved (λ xs. begun o (reads xs) ∈ h) (same r refl) (f .0), moved (Direct chain h es shown c o) (same r refl) (f .1))
   fine-rows (NormalContext q o r) same f = moved (λ xs. begun o (reads xs) ∈ h) (same r refl) f
   fine-rows (ContextReply o r) same f = moved (AnsweredContext h es o) (same r refl) f
+  fine-rows (Acknowledgement q k) same f = f
   fine-rows Unknown same f = f
 
 -- so do those of all that wait
@@ -298,6 +303,7 @@ abbrev pub sortOne : Sort → ℕ
 sortOne (Unstamped o) = 1
 sortOne (Stamped r) = 0
 sortOne (OfRow r) = 0
+sortOne (Acknowledges q k) = 0
 sortOne Plain = 0
 
 abbrev pub unstampedOne : Message → ℕ
@@ -333,4 +339,5 @@ asks-none p = go (sortOf p)
     go (Unstamped o) n = absurd (n o refl)
     go (Stamped r) n = refl
     go (OfRow r) n = refl
+    go (Acknowledges q k) n = refl
     go Plain n = refl

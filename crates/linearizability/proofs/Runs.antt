@@ -18,6 +18,7 @@ use Rattle.operations.specs.{isOpen, lastGiven, roomToOpen, opening, closing}
 use Rattle.operations.proofs.Behind.{SameOpens, same-open, same-last}
 use Rattle.operations.proofs.Laws.{last-opening, open-before, last-closing, open-after-closing}
 use Rattle.store.specs.declared.Write.{Write}
+use Rattle.store.specs.{isQuorum}
 use Rattle.chain.specs.{chainPlace, isMember, tableOf}
 use Rattle.replicas.specs.Links.{allLinks}
 use Rattle.replicas.proofs.Cells.{SizedStore}
@@ -38,7 +39,7 @@ use Rattle.log.proofs.Shows.{head-place}
 use Rattle.log.proofs.Tables.{at-head-first}
 use Rattle.linearizability.specs.Run.{noted, historyFrom, historyOf}
 use Rattle.linearizability.proofs.Waits.{messages}
-use Rattle.linearizability.proofs.Invariant.{chain-held, EndsOnce, Good}
+use Rattle.linearizability.proofs.Invariant.{ReplicasHold, in-chain, in-quorum, EndsOnce, Good}
 use Rattle.linearizability.proofs.Deliveries.{unfinished-other}
 use Rattle.linearizability.proofs.Steps.{unfinished-begin}
 use Rattle.linearizability.proofs.OneOrder.{good-after}
@@ -47,22 +48,26 @@ use Rattle.linearizability.proofs.Opens.{Change, stays, begins, finishe
 
 -- ---- the store of a run
 
+sized-of : {s : List ℕ} {log : List Write} {n : ℕ} → ReplicasHold s log n → SizedStore s
+sized-of (in-chain k) = k .shown .sized
+sized-of (in-quorum k) = k .shown .sized
+
 -- FOR EVERY START THAT IS NOT REFUSED, EVERY LENT ROW OF PLACES AND EVERY LIST OF STEPS, refused ones included
 module _ (b : Setup) (starts : startRefused b ≡ false) (row : List Packet) (xs : List Step) where
-  -- what crates/replicas/proofs/Links.antt assumes of a store: so its theorems are about the stores of runs
-  pub run-descending : Descending (machineOf b row xs .store)
-  run-descending = held-run b starts row xs .shown .falls
+  -- what crates/replicas/proofs/Links.antt assumes of a chain's store: so its theorems are about the stores of runs
+  pub run-descending : isQuorum (machineOf b row xs .store) ≡ false → Descending (machineOf b row xs .store)
+  run-descending chain = held-run b starts row xs chain .shown .falls
 
   pub run-sized : SizedStore (machineOf b row xs .store)
-  run-sized = held-run b starts row xs .shown .sized
+  run-sized = sized-of (good-run b starts row xs .replicas)
 
   -- and of a write that a live replica takes: it is at the head
-  pub accepted-at-head : (r : ℕ) (w : Write) → StampedWrite r w ∈ messages (machineOf b row xs .waiting) → isMember (machineOf b row xs .store) r ≡ true
+  pub accepted-at-head : isQuorum (machineOf b row xs .store) ≡ false → (r : ℕ) (w : Write) → StampedWrite r w ∈ messages (machineOf b row xs .waiting) → isMember (machineOf b row xs .store) r ≡ true
       → chainPlace (machineOf b row xs .store) (tableOf (machineOf b row xs .store) r) ≡ 0
-  accepted-at-head r w i member =
+  accepted-at-head chain r w i member =
       let g = good-run b starts row xs in
       let s = machineOf b row xs .store in
-      ap (chainPlace s) (at-head-first s r (g .posted (StampedWrite r w) i .0) member) ∙ head-place (chain-held (g .replicas) .shown)
+      ap (chainPlace s) (at-head-first s r (g .posted (StampedWrite r w) i .0) member) ∙ head-place (held-run b starts row xs chain .shown)
 
   -- nor is a write that waits for a newcomer: its number is below the newcomer's
   pub below-newcomer : (r : ℕ) (w : Write) → StampedWrite r w ∈ messages (machineOf b row xs .waiting) → isJoining (machineOf b row xs .store) ≡ true
@@ -70,8 +75,8 @@ module _ (b : Setup) (starts : startRefused b ≡ false) (row : List Packet) (xs
   below-newcomer r w i joins = good-run b starts row xs .posted (StampedWrite r w) i .0 .2 (joining-set (machineOf b row xs .store) joins)
 
   -- 'All links together hold at most 64 writes', counted link by link
-  pub links-within : allLinks (machineOf b row xs .store) ≤ 64
-  links-within = omega (arith, links-together (machineOf b row xs .store) run-descending, linked-within b starts row xs)
+  pub links-within : isQuorum (machineOf b row xs .store) ≡ false → allLinks (machineOf b row xs .store) ≤ 64
+  links-within chain = omega (arith, links-together (machineOf b row xs .store) (run-descending chain), linked-within b starts row xs chain)
 
 -- ---- an operation finishes once
 

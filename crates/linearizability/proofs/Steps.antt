@@ -31,13 +31,13 @@ use Rattle.waiting.specs.Waiting.{held, lookAt}
 use Rattle.waiting.proofs.Laws as waiting
 use Rattle.protocol.specs.declared.Message.{Message}
 use Rattle.protocol.specs.declared.Message.the-variants.{SwitchRead, ContextRead}
-use Rattle.protocol.specs.declared.Refusal.the-variants.{Format, ObjectNumber, OperationsUsedUp, OpenFull, WaitingFull, NoPacket, UnstampedRepeat, SwitchNumber, NotOpen, BufferTooShort, SameObject}
+use Rattle.protocol.specs.declared.Refusal.the-variants.{Format, ObjectNumber, OperationsUsedUp, OpenFull, WaitingFull, NoPacket, UnstampedRepeat, SwitchNumber, NotOpen, BufferTooShort, SameObject, WrongStore}
 use Rattle.protocol.specs.declared.Step.{Step}
-use Rattle.protocol.specs.declared.Step.the-variants.{Start, BeginRead, BeginWrite, Deliver, Lose, Repeat, Advance, Replace, Tell, Remove, GiveUp, BeginContext, Join, Copy}
+use Rattle.protocol.specs.declared.Step.the-variants.{Start, BeginRead, BeginWrite, Deliver, Lose, Repeat, Advance, Replace, Tell, Remove, GiveUp, BeginContext, Join, Copy, Execute}
 use Rattle.protocol.specs.Messages.{packetOf, contextMessage, messageOf, isUnstamped, isOfContext, inRow}
 use Rattle.protocol.specs.Decisions.{Switched, Opened, opened, changingSwitch, changingStore, changingOpens, deciding, noEdit, addOne, dropping, overfull}
 use Rattle.protocol.specs.Contexts.{released, leaving, droppingRow}
-use Rattle.protocol.specs.Steps.{Machine, givenBy, asking, beginOperation, beginContext, delivered, lost, copied, repeated, advancing, replacing, telling, removing, joining, copyingOn, givingUp, decided, isMalformed, decidedIn, positionOf, outcomeOf}
+use Rattle.protocol.specs.Steps.{Machine, givenBy, asking, beginOperation, beginContext, delivered, lost, copied, repeated, advancing, executingOn, replacing, telling, removing, joining, copyingOn, givingUp, decided, isMalformed, decidedIn, positionOf, outcomeOf}
 use Rattle.linearizability.specs.Run.{begunCount, noted}
 use Rattle.protocol.proofs.Effects.{Names}
 use Rattle.linearizability.proofs.Packets.{Asks, not-free, unstampedOne, unstamped-append, asks-none}
@@ -47,8 +47,9 @@ use Rattle.linearizability.proofs.SwitchLaws.{holds-new}
 use Rattle.linearizability.proofs.Invariant.{Placed, InRange, Books, oneChain, ChainCore, Good, Then, order-stays, good-refused, posted-add, new-number, new-unfinished}
 use Rattle.linearizability.proofs.Copies.{family-names, family-only, family-asks, family-placed, family-fine, packet-family}
 use Rattle.linearizability.proofs.Deliveries.{good-of, books-closed, books-same, good-dropped, good-freed}
-use Rattle.linearizability.proofs.Invariant.{ReplicasHold, in-chain}
+use Rattle.linearizability.proofs.Invariant.{ReplicasHold, in-chain, in-quorum}
 use Rattle.linearizability.proofs.ChainMoves.{good-advance, good-tell, good-remove, good-join, good-copy}
+use Rattle.linearizability.proofs.QuorumMoves.{good-told, good-follower, good-execute}
 use Rattle.linearizability.proofs.Messages.{good-message}
 use Rattle.protocol.specs.Steps.{isSound}
 
@@ -226,7 +227,7 @@ asks-not p e o =
     rw e
     (both P (eqb (p .kind) 2) (λ a. a) (both P (eqb (p .kind) 3) (λ a. a) (both P (eqb (p .kind) 4) (λ a. a)
     (both P (eqb (p .kind) 5) (λ a. a) (both P (eqb (p .kind) 6) (λ a. a) (both P (eqb (p .kind) 7) (λ a. a)
-    (both P (eqb (p .kind) 8) (λ a. a) (both P (eqb (p .kind) 9) (λ a. a) (both P (eqb (p .kind) 10) (λ a. a) (both P (eqb (p .kind) 11) (λ a. a) (λ a. a)))))))))))
+    (both P (eqb (p .kind) 8) (λ a. a) (both P (eqb (p .kind) 9) (λ a. a) (both P (eqb (p .kind) 10) (λ a. a) (both P (eqb (p .kind) 11) (λ a. a) (both P (eqb (p .kind) 12) (λ a. a) (λ a. a))))))))))))
 
 -- nor one that names a row, unless it is of a context
 pub names-not : (p : Packet) → isOfContext p ≡ false → (r : ℕ) → Names (messageOf p) r → ⊥
@@ -238,7 +239,8 @@ names-not p e r =
     (by-test P (eqb (p .kind) 8) (λ k. absurd (other 8 (eqb-true (p .kind) 8 k) (omega arith) (omega arith)))
     (λ f. by-test P (eqb (p .kind) 9) (λ k. absurd (other 9 (eqb-true (p .kind) 9 k) (omega arith) (omega arith)))
     (λ f. by-test P (eqb (p .kind) 10) (λ k. absurd (other 10 (eqb-true (p .kind) 10 k) (omega arith) (omega arith)))
-    (λ f. by-test P (eqb (p .kind) 11) (λ k. absurd (other 11 (eqb-true (p .kind) 11 k) (omega arith) (omega arith))) (λ f a. a)))))))))))
+    (λ f. by-test P (eqb (p .kind) 11) (λ k. absurd (other 11 (eqb-true (p .kind) 11 k) (omega arith) (omega arith)))
+    (λ f. both P (eqb (p .kind) 12) (λ a. a) (λ a. a))))))))))))
   where
     other : (k : ℕ) → p .kind ≡ k → 8 ≤ k → k ≤ 11 → ⊥
     other k q low high =
@@ -335,8 +337,6 @@ module _ {m : Machine} {h : History} {es : List Entry} (g : Good m h es) (wide :
           (omega (arith, g .counted, unstamped-append (messages (m .waiting)) (p ∷ []), asks-none p u)) (g .switch-holds)
           (waiting.exact-edited (m .waiting) _ (g .exact)))
 
--- ---- the chain
-
 -- ---- the switch is replaced, and an operation is given up
 
 good-replace : {m : Machine} {h : History} {es : List Entry} (g : Good m h es) (number : ℕ) → number < limits.switchNumbers → Then (Replace number) m h es (changingSwitch (givenBy m) (replacing (m .switch) number))
@@ -373,19 +373,33 @@ not-false-true false e = absurd (let z : _≡_ {A = ℕ} 0 1 = cc in omega arith
 -- the steps that change the replicas, by the kind of store
 module _ {m : Machine} {h : History} {es : List Entry} (g : Good m h es) where
   replica-advance : (r : ℕ) → waiting.Roomy (m .waiting) → ReplicasHold (m .store) (g .log) (g .n) → Then (Advance r) m h es (changingStore (givenBy m) (advancing (m .store) (held (m .waiting)) r))
-  replica-advance r wide (in-chain k) = good-advance g k r wide
+  unfolding advancing
+  replica-advance r wide (in-chain k) = rw (k .kind) (good-advance g k r wide)
+  replica-advance r wide (in-quorum k) = rw (k .kind) (good-follower g k r wide)
 
   replica-tell : (r : ℕ) → ReplicasHold (m .store) (g .log) (g .n) → Then (Tell r) m h es (changingStore (givenBy m) (telling (m .switch) (m .store) r))
   replica-tell r (in-chain k) = good-tell g k r
+  replica-tell r (in-quorum k) = good-told g k r
 
   replica-remove : (r : ℕ) → ReplicasHold (m .store) (g .log) (g .n) → Then (Remove r) m h es (changingStore (givenBy m) (removing (m .store) r))
+  unfolding removing
   replica-remove r (in-chain k) = good-remove g k r
+  replica-remove r (in-quorum k) = rw (k .kind) (good-refused (Remove r) WrongStore g)
 
   replica-join : ReplicasHold (m .store) (g .log) (g .n) → Then Join m h es (changingStore (givenBy m) (joining (m .store)))
+  unfolding joining
   replica-join (in-chain k) = good-join g k
+  replica-join (in-quorum k) = rw (k .kind) (good-refused Join WrongStore g)
 
   replica-copy : ReplicasHold (m .store) (g .log) (g .n) → Then Copy m h es (changingStore (givenBy m) (copyingOn (m .store)))
+  unfolding copyingOn
   replica-copy (in-chain k) = good-copy g k
+  replica-copy (in-quorum k) = rw (k .kind) (good-refused Copy WrongStore g)
+
+  replica-execute : waiting.Roomy (m .waiting) → ReplicasHold (m .store) (g .log) (g .n) → Then Execute m h es (changingStore (givenBy m) (executingOn (m .store) (held (m .waiting))))
+  unfolding executingOn
+  replica-execute wide (in-chain k) = rw (k .kind) (good-refused Execute WrongStore g)
+  replica-execute wide (in-quorum k) = good-execute g k wide
 
 good-decided : {m : Machine} {h : History} {es : List Entry} (g : Good m h es) → waiting.Roomy (m .waiting) → (x : Step) → isMalformed x ≡ false
     → Then x m h es (decided (givenBy m) (lookAt (m .waiting .packets) (positionOf x)) x)
@@ -404,6 +418,7 @@ good-decided g wide (GiveUp o) some = good-give-up g o
 good-decided g wide (BeginContext x) some = good-begin-context g wide x (not-false-true (isNaming x) some)
 good-decided g wide Join some = replica-join g (g .replicas)
 good-decided g wide Copy some = replica-copy g (g .replicas)
+good-decided g wide Execute some = replica-execute g wide (g .replicas)
 
 -- where fewer than 64 places are lent for the packets, every step is refused
 pub good-step : {m : Machine} {h : History} {es : List Entry} (g : Good m h es) (x : Step) → Then x m h es (outcomeOf m x)

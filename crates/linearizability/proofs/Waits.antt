@@ -16,7 +16,7 @@ use Rattle.waiting.specs.declared.Edit.{Edit}
 use Rattle.waiting.specs.Waiting.{WaitingList, blank, waits, held, lookAt, added, edited}
 use Rattle.waiting.proofs.Laws.{Roomy, Exact, held-most, length-waits, look-is, edited-none, waits-edited-taking, waits-edited-keeping}
 use Rattle.protocol.specs.declared.Message.{Message}
-use Rattle.protocol.specs.declared.Message.the-variants.{UnstampedWrite, SwitchRead, StampedWrite, DirectRead, NormalRead, Completion, Reply, ContextRead, DirectContext, NormalContext, ContextReply, Unknown}
+use Rattle.protocol.specs.declared.Message.the-variants.{UnstampedWrite, SwitchRead, StampedWrite, DirectRead, NormalRead, Completion, Reply, ContextRead, DirectContext, NormalContext, ContextReply, Acknowledgement, Unknown}
 use Rattle.protocol.specs.Messages.{packetOf, contextMessage, messageOf}
 use Rattle.protocol.specs.Decisions.{noEdit, takeOut, takeOutAdd, takeOutAddTwo, addOne, addTwo, overfull}
 
@@ -34,6 +34,7 @@ message-packet (ContextRead o r) = refl
 message-packet (DirectContext q number t o r) = refl
 message-packet (NormalContext q o r) = refl
 message-packet (ContextReply o r) = refl
+message-packet (Acknowledgement q k) = refl
 message-packet Unknown = refl
 
 abbrev pub messages : WaitingList → List Message

@@ -9,7 +9,7 @@ use Rattle.protocol.specs.declared.Answer.{Answer}
 use Rattle.protocol.specs.declared.Answer.the-variants.{Done, Finished, FinishedContext, Refused}
 use Rattle.protocol.specs.declared.Setup.{Setup}
 use Rattle.protocol.specs.declared.Step.{Step}
-use Rattle.protocol.specs.declared.Step.the-variants.{Start, BeginRead, BeginWrite, Deliver, Lose, Repeat, Advance, Replace, Tell, Remove, GiveUp, BeginContext, Join, Copy}
+use Rattle.protocol.specs.declared.Step.the-variants.{Start, BeginRead, BeginWrite, Deliver, Lose, Repeat, Advance, Replace, Tell, Remove, GiveUp, BeginContext, Join, Copy, Execute}
 use Rattle.protocol.specs.Steps.{Machine, answerTo, after, started}
 
 -- how many operations have begun
@@ -48,6 +48,7 @@ noted (GiveUp o) a h = h
 noted (BeginContext x) a h = beginning (reads (numbersOf (contextOf x))) a h
 noted Join a h = h
 noted Copy a h = h
+noted Execute a h = h
 
 -- 'Each step gets the state, the waiting packets and the open operations .. as the step before returned or left them'
 abbrev pub historyFrom : Machine → History → List Step → History
@@ -101,6 +102,7 @@ openNoted (GiveUp o) a h l = openGivenUp o a l
 openNoted (BeginContext x) a h l = openBegun a h l
 openNoted Join a h l = l
 openNoted Copy a h l = l
+openNoted Execute a h l = l
 
 abbrev pub openFrom : Machine → History → List ℕ → List Step → List ℕ
 openFrom m h l [] = l

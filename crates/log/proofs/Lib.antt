@@ -16,3 +16,8 @@ pub mod Links
 pub mod NewTail
 pub mod Taken
 pub mod Removed
+pub mod StoreKind
+pub mod Quorum
+pub mod Leader
+pub mod QuorumHolds
+pub mod QuorumLinks

@@ -3,11 +3,11 @@ use mathlib.Core.Path.{_≡_, refl, sym, ap, _∙_, subst}
 use mathlib.Core.Logic.{_⊎_, inl, inr}
 use mathlib.Core.Bool.{Bool, true, false, cond}
 use mathlib.Core.List.{List, [], _∷_, _++_}
-use Prim.Native.Nat.{ℕ, suc, _-_, _≤_, _<_}
+use Prim.Native.Nat.{ℕ, zero, suc, _-_, _≤_, _<_}
 use native.Mathlib.Nat.{add-sub-of-le}
 use native.Mathlib.Omega.{arith}
 use lib.Dec.{eqb}
-use lib.ListN.{length, take, drop, take-append-drop}
+use lib.ListN.{length, take, drop, take-append-drop, getD}
 use lib.Seq.{take-add, take-length}
 use borrow.Author.Tests.{eqb-true, eq-eqb}
 use Rattle.history.specs.History.{_∈_, writes}
@@ -47,6 +47,18 @@ top-append lo (w ∷ a) b = top-append (w .stamp) a b
 pub rising-front : (lo : ℕ) (a b : List Write) → Rising lo (a ++ b) → Rising lo a
 rising-front lo [] b r = tt
 rising-front lo (w ∷ a) b r = (r .0, rising-front (w .stamp) a b (r .1))
+
+-- the stamp of the last write
+pub top-none : (lo : ℕ) (l : List Write) → length l ≡ 0 → top lo l ≡ lo
+top-none lo [] e = refl
+top-none lo (w ∷ l) e = absurd (omega (arith, e))
+
+pub top-last : (lo : ℕ) (d : Write) (l : List Write) (n : ℕ) → length l ≡ suc n → top lo l ≡ getD l n d .stamp
+top-last lo d [] n e = absurd (omega (arith, e))
+top-last lo d (w ∷ []) zero e = refl
+top-last lo d (w ∷ []) (suc n) e = absurd (omega (arith, e))
+top-last lo d (w ∷ u ∷ l) zero e = absurd (omega (arith, e))
+top-last lo d (w ∷ u ∷ l) (suc n) e = top-last (w .stamp) d (u ∷ l) n (omega (arith, e))
 
 pub rising-back : (lo : ℕ) (a b : List Write) → Rising lo (a ++ b) → Rising (top lo a) b
 rising-back lo [] b r = r

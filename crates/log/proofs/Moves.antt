@@ -43,7 +43,7 @@ entries-shown s log n n' g l h = run (n' - n) n (omega arith) h
         (λ t. f p (omega arith) (omega arith) t ∷ run j (p + 1) (omega arith) (λ i a b. f i (omega arith) b) t)
 
 -- a run of one write
-slice-one : (n : ℕ) (log : List Write) → n < length log → slice n (suc n) log ≡ getD log n noWrite ∷ []
+pub slice-one : (n : ℕ) (log : List Write) → n < length log → slice n (suc n) log ≡ getD log n noWrite ∷ []
 slice-one n log l = slice-cons n (suc n) log noWrite (omega arith) l ∙ ap (λ rest. getD log n noWrite ∷ rest) (slice-empty (suc n) log)
 
 -- the same after a replica has applied a write

@@ -11,7 +11,9 @@ use lib.Seq.{getD-set-other}
 use Rattle.lists.proofs.Tests.{second-passes}
 use Rattle.store.specs.declared.Write.{Write}
 use Rattle.store.specs.{lastNumberCell, joinCell, liveCount, orderAt, numberAt, members, logged, tabled}
-use Rattle.chain.specs.{permitting, emptyStore}
+use Rattle.lists.specs.{listOf}
+use Rattle.lists.proofs.Places.{listOf-same}
+use Rattle.chain.specs.{numbers, memberAt, placeOf, isMember, tableOf, permitting, emptyStore}
 use Rattle.replicas.specs.Replicas.{applying}
 use Rattle.joins.specs.{isJoinSet, isJoining, copiesMade, newcomer, newcomerNumber, lastNumber}
 use Rattle.chain.proofs.Members.{count-most}
@@ -66,6 +68,19 @@ module _ {s t : List ℕ} (e : SameOrder s t) where
   pub number-at-same : (p : ℕ) → p < 8 → numberAt t p ≡ numberAt s p
   unfolding numberAt
   number-at-same p h = ap (λ (n : ℕ). n / 256 % 256) (e .order (1 + p) (omega arith))
+
+  -- who is live, by number, and with which table
+  numbers-as : numbers t ≡ numbers s
+  unfolding numbers
+  numbers-as = ap (listOf (numberAt t)) live-count-same ∙ listOf-same (numberAt t) (numberAt s) (liveCount s) (λ p h. number-at-same p (omega (arith, h, count-most s)))
+
+  pub member-as : (r : ℕ) → isMember t r ≡ isMember s r
+  unfolding isMember placeOf
+  member-as r = rw (numbers-as, live-count-same)
+
+  pub table-as : (r : ℕ) → tableOf t r ≡ tableOf s r
+  unfolding tableOf placeOf memberAt
+  table-as r = rw (numbers-as, members-as)
 
   pub last-number-same : lastNumber t ≡ lastNumber s
   unfolding lastNumber

@@ -49,7 +49,7 @@ abbrev pub Switch : RattleType
 Switch = Array u32 150
 
 abbrev pub Store : RattleType
-Store = Array u32 24939
+Store = Array u32 25340
 
 abbrev pub Opens : RattleType
 Opens = Array u32 642

@@ -29,6 +29,7 @@ fn clear_store(store: &mut [u32; store::CELLS], b: Setup)
     match b {
         Setup::Missing => chain::clear(&mut *store, 0),
         Setup::Chain(n) => chain::clear(&mut *store, n),
+        Setup::Quorum(n) => quorum::clear(&mut *store, n),
     }
 }
 

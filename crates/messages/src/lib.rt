@@ -1,6 +1,6 @@
 // Packets and the messages that they hold.
 ghost use mathlib.Core.Path.{_≡_};
-ghost use Rattle.protocol.specs.Messages.{packetOf, replyTo, completionOf, contextMessage, messageOf, isUnstamped, isOfContext, isContextReply, inRow, writeOf};
+ghost use Rattle.protocol.specs.Messages.{packetOf, replyTo, completionOf, isUnstamped, isOfContext, isContextReply, inRow};
 use limits::HeldFreshness;
 use limits::Number;
 use limits::Object;
@@ -53,6 +53,7 @@ pub fn packet_of(m: Message) -> Packet
         Message::DirectContext(q, number, t, o, r) => packet(9, q, number, o, 0, r, t),
         Message::NormalContext(q, o, r) => packet(10, q, 0, o, 0, r, 0),
         Message::ContextReply(o, r) => packet(11, 0, 0, o, 0, r, 0),
+        Message::Acknowledgement(q, k) => packet(12, q, 0, 0, 0, k, 0),
         Message::Unknown => Packet::blank(),
     }
 }
@@ -68,64 +69,6 @@ pub fn completion_of(w: Write) -> Packet
     ensures { λ r. ⌜ r ≡ completionOf w ⌝ }
 {
     packet_of(Message::Completion(w.object, w.stamp))
-}
-
-fn write_of(p: Packet) -> Write
-    ensures { λ r. ⌜ r ≡ writeOf p ⌝ }
-{
-    Write {
-        operation: p.operation,
-        object: p.object,
-        value: p.value,
-        stamp: p.stamp,
-    }
-}
-
-// The message of a read of a whole context; what a packet of no kind holds.
-fn context_message(p: Packet) -> Message
-    ensures { λ r. ⌜ r ≡ contextMessage p ⌝ }
-{
-    if p.kind == 8 {
-        return Message::ContextRead(p.operation, p.value);
-    }
-    if p.kind == 9 {
-        return Message::DirectContext(p.replica, p.number, p.stamp, p.operation, p.value);
-    }
-    if p.kind == 10 {
-        return Message::NormalContext(p.replica, p.operation, p.value);
-    }
-    if p.kind == 11 {
-        return Message::ContextReply(p.operation, p.value);
-    }
-    Message::Unknown
-}
-
-// The message that a packet holds.
-pub fn message_of(p: Packet) -> Message
-    ensures { λ r. ⌜ r ≡ messageOf p ⌝ }
-{
-    if p.kind == 1 {
-        return Message::UnstampedWrite(p.operation, p.object, p.value);
-    }
-    if p.kind == 2 {
-        return Message::SwitchRead(p.operation, p.object);
-    }
-    if p.kind == 3 {
-        return Message::StampedWrite(p.replica, write_of(p));
-    }
-    if p.kind == 4 {
-        return Message::DirectRead(p.replica, p.number, p.stamp, p.operation, p.object);
-    }
-    if p.kind == 5 {
-        return Message::NormalRead(p.replica, p.operation, p.object, p.stamp);
-    }
-    if p.kind == 6 {
-        return Message::Completion(p.object, p.stamp);
-    }
-    if p.kind == 7 {
-        return Message::Reply(p.operation, p.value, p.stamp, p.number);
-    }
-    context_message(p)
 }
 
 pub fn is_unstamped(p: Packet) -> bool

@@ -25,6 +25,8 @@ fn largest_first(kind: usize) -> u32
         10 => LAST_OPERATION,
         12 => 0,
         13 => 0,
+        14 => 0,
+        15 => 255,
         _ => 65535,
     }
 }
@@ -79,6 +81,8 @@ fn step_from(kind: usize, first: u32, second: u32) -> Step
         10 => Step::GiveUp(first),
         12 => Step::Join,
         13 => Step::Copy,
+        14 => Step::Execute,
+        15 => Step::Start(Setup::Quorum((first % 256) as u8)),
         _ => Step::Start(Setup::Missing),
     }
 }

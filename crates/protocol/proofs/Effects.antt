@@ -15,39 +15,41 @@ use Rattle.contexts.specs.declared.Context.{Context}
 use Rattle.contexts.specs.declared.Objects.{Objects}
 use Rattle.contexts.specs.{contextOf, areObjects, areDifferent, numbersOf, isCount, isContext, contextAt, freeRow, holding, freeing}
 use Rattle.store.specs.declared.Write.{Write}
-use Rattle.store.specs.{liveCount}
-use Rattle.chain.specs.{placeOf, isMember, isTail, isReadReplica, tableOf, allPermit, permitting}
+use Rattle.store.specs.{liveCount, isQuorum}
+use Rattle.chain.specs.{headOf, placeOf, isMember, isTail, isReadReplica, tableOf, allPermit, permitting}
 use Rattle.joins.specs.{isFull, isJoining, beginning, copying, handingOn, without}
-use Rattle.replicas.specs.Replicas.{accepts, taking, applying, pendingAt, oldest, answersDirect}
+use Rattle.replicas.specs.Replicas.{nextPosition, accepts, taking, applying, pendingAt, oldest}
+use Rattle.quorum.specs.{loggedBy, linkedItems, logs, countLogged, logging, nextIsEntry, nextEntry, acknowledging, executes, executing}
 use Rattle.switch.specs.Numbers.{numberIn}
 use Rattle.switch.specs.DirtySet.{marked, stampFor, completed, newSwitch}
 use Rattle.waiting.specs.declared.Edit.{Edit}
 use Rattle.waiting.specs.declared.Packet.{Packet}
 use Rattle.waiting.specs.Waiting.{lookAt}
 use Rattle.protocol.specs.declared.Refusal.{Refusal}
-use Rattle.protocol.specs.declared.Refusal.the-variants.{Format, ObjectNumber, OperationsUsedUp, OpenFull, WaitingFull, NoPacket, UnstampedRepeat, NotLive, NoLinkedWrite, SwitchNumber, LastReplica, NotOpen, BufferTooShort, SameObject, ChainFull, JoinUnderWay, NoJoin}
+use Rattle.protocol.specs.declared.Refusal.the-variants.{Format, ObjectNumber, OperationsUsedUp, OpenFull, WaitingFull, NoPacket, UnstampedRepeat, NotLive, NoLinkedWrite, SwitchNumber, LastReplica, NotOpen, BufferTooShort, SameObject, ChainFull, JoinUnderWay, NoJoin, WrongStore, NothingToExecute}
 use Rattle.protocol.specs.declared.Answer.{Answer}
 use Rattle.protocol.specs.declared.Answer.the-variants.{Done, Finished, FinishedContext, Refused}
 use Rattle.protocol.specs.declared.Message.{Message}
-use Rattle.protocol.specs.declared.Message.the-variants.{UnstampedWrite, SwitchRead, StampedWrite, DirectRead, NormalRead, Completion, Reply, ContextRead, DirectContext, NormalContext, ContextReply, Unknown}
+use Rattle.protocol.specs.declared.Message.the-variants.{UnstampedWrite, SwitchRead, StampedWrite, DirectRead, NormalRead, Completion, Reply, ContextRead, DirectContext, NormalContext, ContextReply, Acknowledgement, Unknown}
 use Rattle.protocol.specs.declared.Decision.{Decision}
 use Rattle.protocol.specs.declared.Step.{Step}
-use Rattle.protocol.specs.declared.Step.the-variants.{Start, BeginRead, BeginWrite, Deliver, Lose, Repeat, Advance, Replace, Tell, Remove, GiveUp, BeginContext, Join, Copy}
+use Rattle.protocol.specs.declared.Step.the-variants.{Start, BeginRead, BeginWrite, Deliver, Lose, Repeat, Advance, Replace, Tell, Remove, GiveUp, BeginContext, Join, Copy, Execute}
 use Rattle.protocol.specs.Answers.{refusalNumber, isAccepted}
 use Rattle.protocol.specs.Roles.{Role, Reads, Writes, Delivers, Loses, Repeats, GivesUp, Removes, Copies, Other, roleOf, positionAs}
 use Rattle.protocol.specs.Messages.{packetOf, messageOf, contextMessage, isUnstamped, isOfContext, isContextReply, inRow}
-use Rattle.protocol.specs.Reads.{goesDirectly}
+use Rattle.protocol.specs.Reads.{goesDirectly, answersRead}
 use Rattle.protocol.specs.Contexts.{hasRow, released, leaving, droppingRow, contextRead, answeringContext, directContext, normalContext, contextReply}
 use Rattle.protocol.specs.Decisions.{Given, Outcome, Switched, Stored, Opened, switched, stored, opened, keeping, changingSwitch, changingStore, changingOpens}
 use Rattle.protocol.specs.Decisions.{noEdit, takeOut, takeOutAdd, addOne, deciding, refusing, dropping, passing, overfull}
-use Rattle.protocol.specs.Delivery.{answering, stamping, unstampedWrite, switchRead, stampedWrite, directRead, normalRead, completion, reply, deliveredMessage}
-use Rattle.protocol.specs.Steps.{Machine, givenBy, outcomeOf, positionOf, isMalformed, decided, decidedIn, asking, beginOperation, beginContext, isSound, delivered, lost, copied, repeated, sending, advancing, replacing, telling, removing, joining, copyingOn, givingUp, answerTo}
+use Rattle.protocol.specs.Delivery.{answering, stamping, unstampedWrite, switchRead, chainWrite, leaderWrite, stampedWrite, acknowledgement, directRead, normalRead, completion, reply, deliveredMessage}
+use Rattle.protocol.specs.Steps.{Machine, givenBy, outcomeOf, positionOf, isMalformed, decided, decidedIn, asking, beginOperation, beginContext, isSound, delivered, lost, copied, repeated, sending, chainAdvancing, acknowledges, followerAdvancing, advancing, executingOn, replacing, telling, removing, joining, copyingOn, givingUp, answerTo}
 
--- what a message is to the list of those that wait: the unstamped write of an operation; a stamped write for a replica; one that names a row; or none of these
+-- what a message is to the list of those that wait: the unstamped write of an operation; a stamped write for a replica; one that names a row; a follower's acknowledgement; or none of these
 pub data Sort : Type 0 where
   Unstamped : ℕ → Sort
   Stamped : ℕ → Sort
   OfRow : ℕ → Sort
+  Acknowledges : ℕ → ℕ → Sort
   Plain : Sort
 
 abbrev pub sortOf : Message → Sort
@@ -62,12 +64,14 @@ sortOf (ContextRead o r) = OfRow r
 sortOf (DirectContext q number c o r) = OfRow r
 sortOf (NormalContext q o r) = OfRow r
 sortOf (ContextReply o r) = OfRow r
+sortOf (Acknowledgement q k) = Acknowledges q k
 sortOf Unknown = Plain
 
 abbrev pub SortNames : Sort → ℕ → Type 0
 SortNames (Unstamped o) s = ⊥
 SortNames (Stamped r) s = ⊥
 SortNames (OfRow r) s = r ≡ s
+SortNames (Acknowledges q k) s = ⊥
 SortNames Plain s = ⊥
 
 -- the message names row s
@@ -82,6 +86,7 @@ one-row q s t = go (sortOf q)
     go (Unstamped o) a b = absurd a
     go (Stamped r) a b = absurd a
     go (OfRow r) a b = sym a ∙ b
+    go (Acknowledges q k) a b = absurd a
     go Plain a b = absurd a
 
 -- the step is a delivery
@@ -100,9 +105,9 @@ takesAs (Removes r) a = false
 takesAs Copies a = false
 takesAs Other a = false
 
--- the numbers of a step's refusals: 1, 3 to 13, 15 to 19
+-- the numbers of a step's refusals: 1, 3 to 13, 15 to 19, 23 and 24
 abbrev pub isStepNumber : ℕ → Bool
-isStepNumber n = cond (eqb n 1) true (cond (leb 15 n) (leb n 19) (cond (leb 3 n) (leb n 13) false))
+isStepNumber n = cond (eqb n 1) true (cond (leb 23 n) (leb n 24) (cond (leb 15 n) (leb n 19) (cond (leb 3 n) (leb n 13) false)))
 
 -- ---- what a step x can do to each part; p is the packet at its position, and q the message that p holds
 
@@ -113,17 +118,29 @@ pub data SwitchEffect (q : Message) (x : Step) (w : List ℕ) : List ℕ → Typ
   completes : (at choice y t : ℕ) → x ≡ Deliver at choice → q ≡ Completion y t → SwitchEffect q x w (completed w y t)
   replaces : (number : ℕ) → x ≡ Replace number → SwitchEffect q x w (newSwitch number)
 
+-- its link holds an item
+abbrev pub Linked : List ℕ → ℕ → Type 0
+Linked s r = eqb (linkedItems s (tableOf s r)) 0 ≡ false
+
 -- the replicas
 pub data StoreEffect (k : Role) (s : List ℕ) : List ℕ → Type 0 where
   store-kept : StoreEffect k s s
-  takes : (r : ℕ) (w : Write) → isMember s r ≡ true → StoreEffect k s (taking s (tableOf s r) w)
-  takes-as-tail : (r : ℕ) (w : Write) → isMember s r ≡ true → StoreEffect k s (handingOn (taking s (tableOf s r) w) w)
-  applies : (r : ℕ) (w : Write) → isMember s r ≡ true → StoreEffect k s (applying s (tableOf s r) w)
-  applies-as-tail : (r : ℕ) (w : Write) → isMember s r ≡ true → StoreEffect k s (handingOn (applying s (tableOf s r) w) w)
   permits : (r number : ℕ) → isMember s r ≡ true → StoreEffect k s (permitting s (tableOf s r) number)
-  removes : (r : ℕ) → k ≡ Removes r → isMember s r ≡ true → StoreEffect k s (without s r)
-  joins : isFull s ≡ false → isJoining s ≡ false → StoreEffect k s (beginning s)
-  copies : k ≡ Copies → isJoining s ≡ true → StoreEffect k s (copying s)
+  -- of a chain
+  takes : (r : ℕ) (w : Write) → isQuorum s ≡ false → isMember s r ≡ true → StoreEffect k s (taking s (tableOf s r) w)
+  takes-as-tail : (r : ℕ) (w : Write) → isQuorum s ≡ false → isMember s r ≡ true → StoreEffect k s (handingOn (taking s (tableOf s r) w) w)
+  applies : (r : ℕ) (w : Write) → isQuorum s ≡ false → isMember s r ≡ true → StoreEffect k s (applying s (tableOf s r) w)
+  applies-as-tail : (r : ℕ) (w : Write) → isQuorum s ≡ false → isMember s r ≡ true → StoreEffect k s (handingOn (applying s (tableOf s r) w) w)
+  removes : (r : ℕ) → isQuorum s ≡ false → k ≡ Removes r → isMember s r ≡ true → StoreEffect k s (without s r)
+  joins : isQuorum s ≡ false → isFull s ≡ false → isJoining s ≡ false → StoreEffect k s (beginning s)
+  copies : isQuorum s ≡ false → k ≡ Copies → isJoining s ≡ true → StoreEffect k s (copying s)
+  -- Req 11: of a quorum store
+  leader-logs : (w : Write) → isQuorum s ≡ true → logs s (w .stamp) ≡ true → StoreEffect k s (logging s w)
+  leader-hears : (r n : ℕ) → isQuorum s ≡ true → isMember s r ≡ true → StoreEffect k s (acknowledging s (tableOf s r) n)
+  follower-logs : (r : ℕ) → isQuorum s ≡ true → isMember s r ≡ true → Linked s r → nextIsEntry s (tableOf s r) ≡ true → StoreEffect k s (countLogged s (tableOf s r))
+  follower-executes : (r : ℕ) → isQuorum s ≡ true → isMember s r ≡ true → Linked s r → nextIsEntry s (tableOf s r) ≡ false
+      → StoreEffect k s (applying s (tableOf s r) (nextEntry s (tableOf s r)))
+  leader-executes : isQuorum s ≡ true → executes s ≡ true → StoreEffect k s (executing s)
 
 -- no operation begins, finishes or is given up
 pub data Quiet : Role → Answer → Type 0 where
@@ -166,7 +183,9 @@ pub data EditEffect (p : Packet) (k : Role) (s : List ℕ) (held : ℕ) : Answer
   answers-write : (w : Write) → w .object < limits.objects → takesAs k Done ≡ true → positionAs k < held → overfull held 1 2 ≡ false → EditEffect p k s held Done (answering (positionAs k) w)
   adds-new : (q : Message) → packetOf q .object < limits.objects → takesAs k Done ≡ false → overfull held 0 1 ≡ false → EditEffect p k s held Done (addOne (packetOf q))
   adds-copy : (f : Packet) → f .object ≡ p .object → positionAs k < held → takesAs k Done ≡ false → overfull held 0 1 ≡ false → EditEffect p k s held Done (addOne f)
-  sends-write : (w : Write) → Oldest s w → takesAs k Done ≡ false → overfull held 0 2 ≡ false → EditEffect p k s held Done (sending w)
+  sends-executed : (w : Write) → isQuorum s ≡ true → executes s ≡ true → w ≡ nextEntry s (headOf s) → takesAs k Done ≡ false → overfull held 0 2 ≡ false
+      → EditEffect p k s held Done (sending w)
+  sends-write : (w : Write) → isQuorum s ≡ false → Oldest s w → takesAs k Done ≡ false → overfull held 0 2 ≡ false → EditEffect p k s held Done (sending w)
 
 -- the answer: what finishes an operation is the delivery of its reply, and changes the open operations alone; a refusal has one of the numbers, and leaves all as it was
 abbrev pub AnswerEffect : Given → Message → Step → Outcome → Answer → Type 0
@@ -318,11 +337,11 @@ module _ (g : Given) (p : Packet) (at choice : ℕ) (inside : at < g .held) wher
   }
 
   -- the lone replica answers the write
-  taken-as-tail : (r : ℕ) (w : Write) → w .object < limits.objects → isMember (g .store) r ≡ true → overfull (g .held) 1 2 ≡ false
+  taken-as-tail : (r : ℕ) (w : Write) → w .object < limits.objects → isQuorum (g .store) ≡ false → isMember (g .store) r ≡ true → overfull (g .held) 1 2 ≡ false
       → Delivering (StampedWrite r w) (changingStore g (stored (deciding (answering at w)) (handingOn (taking (g .store) (tableOf (g .store) r) w) w)))
-  taken-as-tail r w small member roomy = record {
+  taken-as-tail r w small chain member roomy = record {
     switch = switch-kept;
-    store = takes-as-tail r w member;
+    store = takes-as-tail r w chain member;
     between = g .opens;
     opens = quiet (delivers at);
     rows = rows-kept (λ r t n. n);
@@ -331,7 +350,7 @@ module _ (g : Given) (p : Packet) (at choice : ℕ) (inside : at < g .held) wher
   }
 
   message-effect : (q : Message) → packetOf q .object < limits.objects → hasRow (g .opens) (packetOf q) ≡ true → Delivering q (deliveredMessage g at choice q)
-  unfolding deliveredMessage stamping unstampedWrite switchRead stampedWrite directRead normalRead completion reply contextRead directContext normalContext contextReply packetOf hasRow isOfContext isContextReply
+  unfolding deliveredMessage stamping unstampedWrite switchRead chainWrite leaderWrite stampedWrite acknowledgement directRead normalRead completion reply contextRead directContext normalContext contextReply packetOf hasRow isOfContext isContextReply
   message-effect (UnstampedWrite o y v) low there =
       let q : Message = UnstampedWrite o y v in
       let marking : SwitchEffect q x (g .switch) (marked (g .switch) y) = marks at choice o y v refl refl in
@@ -345,17 +364,19 @@ module _ (g : Given) (p : Packet) (at choice : ℕ) (inside : at < g .held) wher
   message-effect (StampedWrite r w) low there =
       let q : Message = StampedWrite r w in
       let P : Stored → Type 0 = λ u. Delivering q (changingStore g u) in
-      by-test P (isMember (g .store) r)
+      by-test P (isQuorum (g .store))
+      (λ quorum. by-test (λ (s : List ℕ). P (stored (dropping at) s)) (logs (g .store) (w .stamp)) (λ new. gone q (λ r n. n) _ _ switch-kept (leader-logs w quorum new)) (λ old. dropped q (λ r n. n)))
+      (λ chain. by-test P (isMember (g .store) r)
       (λ member. both P (accepts (g .store) (tableOf (g .store) r) (w .stamp))
       (both P (isTail (g .store) r)
-      (by-test P (overfull (g .held) 1 2) (λ full. refused g p q x WaitingFull refl) (λ roomy. taken-as-tail r w low member roomy))
-      (gone q (λ r n. n) _ _ switch-kept (takes r w member))) (dropped q (λ r n. n)))
-      (λ out. dropped q (λ r n. n))
+      (by-test P (overfull (g .held) 1 2) (λ full. refused g p q x WaitingFull refl) (λ roomy. taken-as-tail r w low chain member roomy))
+      (gone q (λ r n. n) _ _ switch-kept (takes r w chain member))) (dropped q (λ r n. n)))
+      (λ out. dropped q (λ r n. n)))
   message-effect (DirectRead r number t o y) low there =
       let q : Message = DirectRead r number t o y in
       let P : Decision → Type 0 = λ d. Delivering q (keeping g d) in
       both P (isMember (g .store) r)
-      (both P (answersDirect (g .store) (tableOf (g .store) r) number t (y ∷ [])) (passed q (λ r n. n) _ (omega arith)) (passed q (λ r n. n) _ low)) (dropped q (λ r n. n))
+      (both P (answersRead (g .store) (tableOf (g .store) r) number t (y ∷ [])) (passed q (λ r n. n) _ (omega arith)) (passed q (λ r n. n) _ low)) (dropped q (λ r n. n))
   message-effect (NormalRead r o y t) low there =
       let q : Message = NormalRead r o y t in
       let P : Decision → Type 0 = λ d. Delivering q (keeping g d) in
@@ -371,7 +392,7 @@ module _ (g : Given) (p : Packet) (at choice : ℕ) (inside : at < g .held) wher
       let q : Message = DirectContext a number t o r in
       let P : Opened → Type 0 = λ u. Delivering q (changingOpens g u) in
       both P (isMember (g .store) a)
-      (both P (answersDirect (g .store) (tableOf (g .store) a) number t (numbersOf (contextAt (g .opens) r))) (filled q (tableOf (g .store) a) o r refl) (moved q r refl _ refl (omega arith)))
+      (both P (answersRead (g .store) (tableOf (g .store) a) number t (numbersOf (contextAt (g .opens) r))) (filled q (tableOf (g .store) a) o r refl) (moved q r refl _ refl (omega arith)))
       (freed q r refl)
   message-effect (NormalContext a o r) low there =
       let q : Message = NormalContext a o r in
@@ -381,6 +402,12 @@ module _ (g : Given) (p : Packet) (at choice : ℕ) (inside : at < g .held) wher
   message-effect (ContextReply o r) low there =
       let q : Message = ContextReply o r in
       by-test (λ (u : Opened). Delivering q (changingOpens g u)) (isOpen (g .opens) o) (λ still. ends-context o r still there) (λ shut. freed q r refl)
+  message-effect (Acknowledgement a k) low there =
+      let q : Message = Acknowledgement a k in
+      let P : Stored → Type 0 = λ u. Delivering q (changingStore g u) in
+      by-test P (isQuorum (g .store))
+      (λ quorum. by-test P (isMember (g .store) a) (λ member. gone q (λ r n. n) _ _ switch-kept (leader-hears a k quorum member)) (λ out. dropped q (λ r n. n)))
+      (λ chain. dropped q (λ r n. n))
   message-effect Unknown low there = dropped Unknown (λ r n. n)
 
 -- a packet's message has an object that there is if the packet has
@@ -390,7 +417,7 @@ object-in p low =
     let P : Message → Type 0 = λ q. packetOf q .object < limits.objects in
     both P (eqb (p .kind) 1) low (both P (eqb (p .kind) 2) low (both P (eqb (p .kind) 3) low (both P (eqb (p .kind) 4) low (both P (eqb (p .kind) 5) low (both P (eqb (p .kind) 6) low
     (both P (eqb (p .kind) 7) (omega arith) (both P (eqb (p .kind) 8) (omega arith) (both P (eqb (p .kind) 9) (omega arith) (both P (eqb (p .kind) 10) (omega arith)
-    (both P (eqb (p .kind) 11) (omega arith) (omega arith)))))))))))
+    (both P (eqb (p .kind) 11) (omega arith) (both P (eqb (p .kind) 12) (omega arith) (omega arith))))))))))))
 
 -- and its row is that of the packet
 row-in : (opens : List ℕ) (p : Packet) → hasRow opens p ≡ true → hasRow opens (packetOf (messageOf p)) ≡ true
@@ -399,7 +426,7 @@ row-in opens p there =
     let P : Message → Type 0 = λ q. hasRow opens (packetOf q) ≡ true in
     both P (eqb (p .kind) 1) refl (both P (eqb (p .kind) 2) refl (both P (eqb (p .kind) 3) refl (both P (eqb (p .kind) 4) refl (both P (eqb (p .kind) 5) refl (both P (eqb (p .kind) 6) refl
     (both P (eqb (p .kind) 7) refl (by-test P (eqb (p .kind) 8) (λ k. rw (eqb-true (p .kind) 8 k) at there) (λ a. by-test P (eqb (p .kind) 9) (λ k. rw (eqb-true (p .kind) 9 k) at there)
-    (λ b. by-test P (eqb (p .kind) 10) (λ k. rw (eqb-true (p .kind) 10 k) at there) (λ c. by-test P (eqb (p .kind) 11) (λ k. rw (eqb-true (p .kind) 11 k) at there) (λ d. refl)))))))))))
+    (λ b. by-test P (eqb (p .kind) 10) (λ k. rw (eqb-true (p .kind) 10 k) at there) (λ c. by-test P (eqb (p .kind) 11) (λ k. rw (eqb-true (p .kind) 11 k) at there) (λ d. both P (eqb (p .kind) 12) refl refl)))))))))))
 
 -- and the other way round
 pub row-of : (opens : List ℕ) (p : Packet) → hasRow opens (packetOf (messageOf p)) ≡ true → hasRow opens p ≡ true
@@ -411,8 +438,8 @@ row-of opens p =
     (λ n3. by-test P (eqb (p .kind) 4) (λ k t. other 4 (omega arith) k) (λ n4. by-test P (eqb (p .kind) 5) (λ k t. other 5 (omega arith) k) (λ n5. by-test P (eqb (p .kind) 6) (λ k t. other 6 (omega arith) k)
     (λ n6. by-test P (eqb (p .kind) 7) (λ k t. other 7 (omega arith) k) (λ n7. by-test P (eqb (p .kind) 8) (λ k t. rw (eqb-true (p .kind) 8 k) t) (λ n8. by-test P (eqb (p .kind) 9) (λ k t. rw (eqb-true (p .kind) 9 k) t)
     (λ n9. by-test P (eqb (p .kind) 10) (λ k t. rw (eqb-true (p .kind) 10 k) t) (λ n10. by-test P (eqb (p .kind) 11) (λ k t. rw (eqb-true (p .kind) 11 k) t)
-    (λ n11 t. by-test (λ (b : Bool). cond b (cond (eqb (p .kind) 11) (isCount (contextAt opens (p .value) .count)) (isContext (contextAt opens (p .value)))) true ≡ true) (ltb (p .kind) 8) (λ low. refl)
-    (λ high. rw (lt-leb (p .kind) 11 (omega (arith, ltb-false (p .kind) 8 high, eqb-false (p .kind) 8 n8, eqb-false (p .kind) 9 n9, eqb-false (p .kind) 10 n10, eqb-false (p .kind) 11 n11))) refl))))))))))))
+    (λ n11. by-test P (eqb (p .kind) 12) (λ k t. rw (eqb-true (p .kind) 12 k) refl) (λ n12 t. by-test (λ (b : Bool). cond b (cond (eqb (p .kind) 11) (isCount (contextAt opens (p .value) .count)) (isContext (contextAt opens (p .value)))) true ≡ true) (ltb (p .kind) 8) (λ low. refl)
+    (λ high. rw (lt-leb (p .kind) 11 (omega (arith, ltb-false (p .kind) 8 high, eqb-false (p .kind) 8 n8, eqb-false (p .kind) 9 n9, eqb-false (p .kind) 10 n10, eqb-false (p .kind) 11 n11))) refl)))))))))))))
 
 -- ---- every step
 
@@ -537,9 +564,9 @@ module _ (g : Given) (p : Packet) where
         answer = tt;
       })
 
-  advance-effect : (r : ℕ) → Of (Advance r) (changingStore g (advancing (g .store) (g .held) r))
-  unfolding advancing
-  advance-effect r =
+  chain-effect : (r : ℕ) → isQuorum (g .store) ≡ false → Of (Advance r) (changingStore g (chainAdvancing (g .store) (g .held) r))
+  unfolding chainAdvancing
+  chain-effect r chain =
       let P : Stored → Type 0 = λ u. Of (Advance r) (changingStore g u) in
       let no : (e : Refusal) → isStepNumber (refusalNumber e) ≡ true → P (stored (refusing e) (g .store)) = refused g p (messageOf p) (Advance r) in
       by-test P (isMember (g .store) r)
@@ -547,15 +574,58 @@ module _ (g : Given) (p : Packet) where
       (λ some. both P (isTail (g .store) r)
       (by-test P (overfull (g .held) 0 2) (λ full. no WaitingFull refl) (λ roomy. record {
         switch = switch-kept;
-        store = applies-as-tail r _ member;
+        store = applies-as-tail r _ chain member;
         between = g .opens;
         opens = quiet other;
         rows = rows-kept (λ s t. untrue t);
-        edit = sends-write _ (r, member, some, refl) refl roomy;
+        edit = sends-write _ chain (r, member, some, refl) refl roomy;
         answer = tt;
       }))
-      (only-store (Advance r) other refl _ (applies r _ member))))
+      (only-store (Advance r) other refl _ (applies r _ chain member))))
       (λ gone. no NotLive refl)
+
+  follower-effect : (r : ℕ) → isQuorum (g .store) ≡ true → Of (Advance r) (changingStore g (followerAdvancing (g .store) (g .held) r))
+  unfolding followerAdvancing packetOf
+  follower-effect r quorum =
+      let P : Stored → Type 0 = λ u. Of (Advance r) (changingStore g u) in
+      let no : (e : Refusal) → isStepNumber (refusalNumber e) ≡ true → P (stored (refusing e) (g .store)) = refused g p (messageOf p) (Advance r) in
+      by-test P (isMember (g .store) r)
+      (λ member. by-test P (eqb (linkedItems (g .store) (tableOf (g .store) r)) 0) (λ none. no NoLinkedWrite refl)
+      (λ some. by-test P (nextIsEntry (g .store) (tableOf (g .store) r))
+      (λ entry. by-test P (overfull (g .held) 0 1) (λ full. no WaitingFull refl) (λ roomy. record {
+        switch = switch-kept;
+        store = follower-logs r quorum member some entry;
+        between = g .opens;
+        opens = quiet other;
+        rows = rows-kept (λ s t. untrue t);
+        edit = adds-new (Acknowledgement r (nextPosition (loggedBy (g .store) (tableOf (g .store) r)))) (omega arith) refl roomy;
+        answer = tt;
+      }))
+      (λ stamp. only-store (Advance r) other refl _ (follower-executes r quorum member some stamp))))
+      (λ gone. no NotLive refl)
+
+  advance-effect : (r : ℕ) → Of (Advance r) (changingStore g (advancing (g .store) (g .held) r))
+  unfolding advancing
+  advance-effect r = by-test (λ (u : Stored). Of (Advance r) (changingStore g u)) (isQuorum (g .store)) (follower-effect r) (chain-effect r)
+
+  execute-effect : Of Execute (changingStore g (executingOn (g .store) (g .held)))
+  unfolding executingOn
+  execute-effect =
+      let P : Stored → Type 0 = λ u. Of Execute (changingStore g u) in
+      let no : (e : Refusal) → isStepNumber (refusalNumber e) ≡ true → P (stored (refusing e) (g .store)) = refused g p (messageOf p) Execute in
+      by-test P (isQuorum (g .store))
+      (λ quorum. by-test P (executes (g .store))
+      (λ next. by-test P (overfull (g .held) 0 2) (λ full. no WaitingFull refl) (λ roomy. record {
+        switch = switch-kept;
+        store = leader-executes quorum next;
+        between = g .opens;
+        opens = quiet other;
+        rows = rows-kept (λ s t. untrue t);
+        edit = sends-executed _ quorum next refl refl roomy;
+        answer = tt;
+      }))
+      (λ none. no NothingToExecute refl))
+      (λ chain. no WrongStore refl)
 
   pub step-effect : (x : Step) → Of x (decided g p x)
   unfolding decided delivered isSound lost repeated replacing telling removing joining copyingOn givingUp
@@ -585,9 +655,10 @@ module _ (g : Given) (p : Packet) where
       (λ out. refused g p (messageOf p) (Tell r) NotLive refl)
   step-effect (Remove r) =
       let P : Stored → Type 0 = λ u. Of (Remove r) (changingStore g u) in
-      by-test P (isMember (g .store) r)
-      (λ member. both P (leb (liveCount (g .store)) 1) (refused g p (messageOf p) (Remove r) LastReplica refl) (only-store (Remove r) (removal r) refl _ (removes r refl member)))
-      (λ out. refused g p (messageOf p) (Remove r) NotLive refl)
+      by-test P (isQuorum (g .store)) (λ quorum. refused g p (messageOf p) (Remove r) WrongStore refl)
+      (λ chain. by-test P (isMember (g .store) r)
+      (λ member. both P (leb (liveCount (g .store)) 1) (refused g p (messageOf p) (Remove r) LastReplica refl) (only-store (Remove r) (removal r) refl _ (removes r chain refl member)))
+      (λ out. refused g p (messageOf p) (Remove r) NotLive refl))
   step-effect (GiveUp o) =
       by-test (λ (u : Opened). Of (GiveUp o) (changingOpens g u)) (isOpen (g .opens) o)
       (λ still. record {
@@ -603,11 +674,14 @@ module _ (g : Given) (p : Packet) where
   step-effect (BeginContext y) = context-effect y
   step-effect Join =
       let P : Stored → Type 0 = λ u. Of Join (changingStore g u) in
-      by-test P (isFull (g .store)) (λ full. refused g p (messageOf p) Join ChainFull refl)
-      (λ room. by-test P (isJoining (g .store)) (λ under. refused g p (messageOf p) Join JoinUnderWay refl) (λ none. only-store Join other refl _ (joins room none)))
+      by-test P (isQuorum (g .store)) (λ quorum. refused g p (messageOf p) Join WrongStore refl)
+      (λ chain. by-test P (isFull (g .store)) (λ full. refused g p (messageOf p) Join ChainFull refl)
+      (λ room. by-test P (isJoining (g .store)) (λ under. refused g p (messageOf p) Join JoinUnderWay refl) (λ none. only-store Join other refl _ (joins chain room none))))
   step-effect Copy =
       let P : Stored → Type 0 = λ u. Of Copy (changingStore g u) in
-      by-test P (isJoining (g .store)) (λ under. only-store Copy copy refl _ (copies refl under)) (λ none. refused g p (messageOf p) Copy NoJoin refl)
+      by-test P (isQuorum (g .store)) (λ quorum. refused g p (messageOf p) Copy WrongStore refl)
+      (λ chain. by-test P (isJoining (g .store)) (λ under. only-store Copy copy refl _ (copies chain refl under)) (λ none. refused g p (messageOf p) Copy NoJoin refl))
+  step-effect Execute = execute-effect
 
 -- the packet at a step's position
 abbrev pub packetAt : Machine → Step → Packet
@@ -644,3 +718,4 @@ delivery (GiveUp o) at e = absurd (let z : _≡_ {A = ℕ} 0 1 = cc in omega (ar
 delivery (BeginContext x) at e = absurd (let z : _≡_ {A = ℕ} 0 1 = cc in omega (arith, z))
 delivery Join at e = absurd (let z : _≡_ {A = ℕ} 0 1 = cc in omega (arith, z))
 delivery Copy at e = absurd (let z : _≡_ {A = ℕ} 0 1 = cc in omega (arith, z))
+delivery Execute at e = absurd (let z : _≡_ {A = ℕ} 0 1 = cc in omega (arith, z))

@@ -18,7 +18,7 @@ use Rattle.protocol.specs.Decisions.{noEdit, overfull}
 use Rattle.protocol.specs.Roles.{Role, Reads, Writes, Delivers, Loses, Repeats, GivesUp, Removes, Copies, Other}
 use Rattle.protocol.specs.Steps.{Machine, outcomeOf, answerTo, after}
 use Rattle.lists.proofs.Tests.{untrue}
-use Rattle.protocol.proofs.Effects.{takesAs, EditEffect, edits-nothing, takes-out, turns-into, answers-write, adds-new, adds-copy, sends-write, effect, accepted-wide}
+use Rattle.protocol.proofs.Effects.{takesAs, EditEffect, edits-nothing, takes-out, turns-into, answers-write, adds-new, adds-copy, sends-executed, sends-write, effect, accepted-wide}
 
 -- only a step that is accepted takes a packet out
 taken-accepted : (k : Role) (a : Answer) → takesAs k a ≡ true → isAccepted a ≡ true
@@ -43,7 +43,8 @@ whole w wide (turns-into q low t i) = whole-taking w _ (wide refl) refl i (omega
 whole w wide (answers-write u low t i roomy) = whole-taking w _ (wide refl) refl i (room-for (held w) 1 2 roomy)
 whole w wide (adds-new q low t roomy) = whole-adding w _ (wide refl) refl (omega arith) (omega (arith, room-for (held w) 0 1 roomy))
 whole w wide (adds-copy f same i t roomy) = whole-adding w _ (wide refl) refl (omega arith) (omega (arith, room-for (held w) 0 1 roomy))
-whole w wide (sends-write u oldest t roomy) = whole-adding w _ (wide refl) refl (omega arith) (omega (arith, room-for (held w) 0 2 roomy))
+whole w wide (sends-executed u quorum next is t roomy) = whole-adding w _ (wide refl) refl (omega arith) (omega (arith, room-for (held w) 0 2 roomy))
+whole w wide (sends-write u chain oldest t roomy) = whole-adding w _ (wide refl) refl (omega arith) (omega (arith, room-for (held w) 0 2 roomy))
 
 -- EVERY STEP OF EVERY MACHINE: what was decided of the waiting list is done
 pub never-skipped : (m : Machine) (x : Step) → after m x .waiting ≡ editedWhole (m .waiting) (outcomeOf m x .decision .edit)

@@ -9,7 +9,7 @@ use Rattle.lists.specs.{indexOf, listOf, moves}
 use Rattle.stamp.specs.Stamps.{stampOf, numberOf, counterOf, stampIn, setStamp}
 use Rattle.operations.specs.{noneOpen}
 use Rattle.store.specs.declared.Write.{Write}
-use Rattle.store.specs.{lastNumberCell, joinCell, valueCell, stampCell, storeCells, liveCount, orderAt, numberAt, members, rowOf, valueAt, stampAt, tabled}
+use Rattle.store.specs.{lastNumberCell, joinCell, valueCell, stampCell, storeCells, liveCount, orderAt, numberAt, members, rowOf, valueAt, stampAt, tabled, isQuorum}
 use Rattle.chain.specs.{isReadPlace, isReadReplica, readReplicaNumber, memberAt, numbers, placeOf, isMember, isTail, tableOf, numberIn, tailNumber, removed, emptyCells, numbered, emptyStore}
 use Rattle.joins.specs.{isJoinSet, isJoining, copiesMade, newcomer, newcomerNumber, lastNumber, isFull, beginning, isCopied, handingOn, joinEnded, without}
 use Rattle.switch.specs.DirtySet.{newSwitch}
@@ -21,7 +21,7 @@ use Rattle.protocol.specs.Answers.{noFreshness}
 use Rattle.protocol.specs.Messages.{packetOf}
 use Rattle.protocol.specs.Decisions.{refusing, dropping, passing}
 use Rattle.protocol.specs.Delivery.{freshness, normalRead}
-use Rattle.protocol.specs.Steps.{Machine, machine, advancing, telling, removing, joining, copyingOn, positionOf, isMalformed, decided, decidedIn, answerTo, after}
+use Rattle.protocol.specs.Steps.{Machine, machine, chainAdvancing, advancing, telling, removing, joining, copyingOn, positionOf, isMalformed, decided, decidedIn, answerTo, after}
 use Rattle.protocol.proofs.Points.{Point, point, allTrue, allHold, gives, sends, emptyList}
 
 -- a machine with this store, nothing marked, no operation open and no packet waiting
@@ -78,5 +78,5 @@ join-points =
 
 -- the definitions compute every row, and no row is missing
 pub join-points-hold : allHold 1 6 join-points ≡ true
-unfolding join-points isJoinSet isReadPlace isReadReplica readReplicaNumber chained answers joinedBy usedUp overfullJoin allHold allTrue gives sends emptyList stampOf numberOf counterOf stampIn setStamp indexOf listOf moves noneOpen valueCell stampCell storeCells liveCount orderAt numberAt members rowOf valueAt stampAt tabled memberAt numbers placeOf isMember isTail tableOf numberIn tailNumber removed emptyCells numbered emptyStore isJoining copiesMade newcomer newcomerNumber lastNumber isFull beginning isCopied handingOn joinEnded without newSwitch heldIn noneWait lookAt packetOf refusing dropping passing freshness normalRead advancing telling removing joining copyingOn positionOf isMalformed decided decidedIn answerTo after
+unfolding join-points isQuorum chainAdvancing isJoinSet isReadPlace isReadReplica readReplicaNumber chained answers joinedBy usedUp overfullJoin allHold allTrue gives sends emptyList stampOf numberOf counterOf stampIn setStamp indexOf listOf moves noneOpen valueCell stampCell storeCells liveCount orderAt numberAt members rowOf valueAt stampAt tabled memberAt numbers placeOf isMember isTail tableOf numberIn tailNumber removed emptyCells numbered emptyStore isJoining copiesMade newcomer newcomerNumber lastNumber isFull beginning isCopied handingOn joinEnded without newSwitch heldIn noneWait lookAt packetOf refusing dropping passing freshness normalRead advancing telling removing joining copyingOn positionOf isMalformed decided decidedIn answerTo after
 join-points-hold = refl

@@ -11,7 +11,7 @@ use Rattle.lists.specs.{indexOf, listOf, moves, allOf}
 use Rattle.contexts.specs.{isContext, placeOf, sizeOf, numbersOf, isCount, isObject, areObjects, standsFirst, areDifferent, emptyAt, isNaming, rowCell, sizeAt, freeRow}
 use Rattle.stamp.specs.Stamps.{stampOf, numberOf, counterOf, isAbove, largerOf, stampIn, setStamp}
 use Rattle.operations.specs.{noneOpen, openCount, openNumbers, openPlace, isOpen, lastGiven, roomToOpen, opening}
-use Rattle.store.specs.{entryCell, entryStampCell, valueCell, stampCell, storeCells, liveCount, orderAt, numberAt, members, rowOf, highestOf, permittedBy, appliedBy, valueAt, stampAt, logged, tabled, raised}
+use Rattle.store.specs.{entryCell, entryStampCell, valueCell, stampCell, storeCells, liveCount, orderAt, numberAt, members, rowOf, highestOf, permittedBy, appliedBy, valueAt, stampAt, logged, tabled, raised, isQuorum}
 use Rattle.chain.specs.{isReadPlace, isReadReplica, readReplicaNumber, memberAt, headOf, tailOf, numbers, placeOf as placeOfNumber, isMember, isTail, tableOf, numberIn as numberInChain, headNumber, tailNumber, chosenBy, permits, allPermit, permitting, removed, emptyCells, numbered, emptyStore}
 use Rattle.replicas.specs.Replicas.{isNotAbove, linkedWrites, accepts, nextPosition, applying, taking, pendingAt, oldest, answersDirect}
 use Rattle.joins.specs.{isJoinSet, isJoining, copiesMade, isCopied, handingOn, joinEnded, without}
@@ -31,11 +31,11 @@ use Rattle.protocol.specs.declared.Step.the-variants.{Start, BeginRead, 
 use Rattle.protocol.specs.Answers.{refusalNumber, noFreshness}
 use Rattle.protocol.specs.Messages.{packetOf, messageOf, isUnstamped, isOfContext, isContextReply}
 use Rattle.protocol.specs.Decisions.{refusing, dropping, passing, overfull}
-use Rattle.protocol.specs.Reads.{isUnmarked, goesDirectly}
+use Rattle.protocol.specs.Reads.{isUnmarked, goesDirectly, answersRead}
 use Rattle.protocol.specs.Contexts.{hasRow, released, leaving}
-use Rattle.protocol.specs.Delivery.{stamping, unstampedWrite, switchRead, stampedWrite, directRead, normalRead, completion, reply, deliveredMessage}
+use Rattle.protocol.specs.Delivery.{stamping, unstampedWrite, switchRead, chainWrite, stampedWrite, directRead, normalRead, completion, reply, deliveredMessage}
 use Rattle.protocol.specs.Starts.{startRefused, startAnswer}
-use Rattle.protocol.specs.Steps.{Machine, machine, asking, beginOperation, beginContext, isSound, delivered, lost, copied, repeated, advancing, replacing, telling, removing, givingUp, positionOf, isMalformed, decided, decidedIn, answerTo, after, steppedBy}
+use Rattle.protocol.specs.Steps.{Machine, machine, asking, beginOperation, beginContext, isSound, delivered, lost, copied, repeated, chainAdvancing, advancing, replacing, telling, removing, givingUp, positionOf, isMalformed, decided, decidedIn, answerTo, after, steppedBy}
 
 -- a point of document 01: its number, and tests that must all pass
 pub record Point : Type 0 where
@@ -247,5 +247,5 @@ pub record PointsHold : Type 0 where
   pub marks-points-hold : allHold 1 7 marks-points ≡ true
 
 pub holds : PointsHold
-unfolding points isJoinSet isReadPlace isReadReplica readReplicaNumber isNotAbove isUnmarked goesDirectly isSound hasRow isContextReply isContext allHold allTrue gives lone copies emptyList markedAll switchOfP4 switchOfP7 storeOfP6 readOfP6 sends writeOfP10 storeOfP11 stampOf numberOf counterOf isAbove largerOf stampIn setStamp entryStampCell noneOpen openCount lastGiven roomToOpen indexOf listOf moves entryCell valueCell stampCell storeCells liveCount orderAt numberAt members rowOf highestOf permittedBy appliedBy valueAt stampAt logged tabled raised memberAt headOf tailOf numbers placeOfNumber isMember isTail tableOf numberInChain headNumber tailNumber chosenBy removed emptyCells numbered emptyStore linkedWrites accepts nextPosition applying taking answersDirect numberIn counterIn committedIn slotObject slotStamp firstSlot secondSlot thirdSlot holdsObject countsAbove isFree holdsAbove freeSlot slotFor markAbove lookedUp nextStamp marking canMark marked isCompleted clearedAt completed newSwitch countedTo countedMarks heldIn noneWait lookAt takesOut leftBy fits afterTaking adding edited packetOf messageOf isUnstamped isOfContext refusing passing overfull directRead stampedWrite deliveredMessage startRefused startAnswer beginOperation delivered copied repeated positionOf isMalformed decided decidedIn answerTo after context-points naming beginContext allOf placeOf sizeOf numbersOf isCount isObject areObjects standsFirst areDifferent emptyAt isNaming rowCell sizeAt freeRow opening marks-points stored several marksAfter marksIn lessOne oneMore marksFor isOwn raising committing leaving released dropping stamping unstampedWrite switchRead normalRead completion reply lost advancing pendingAt oldest handingOn isCopied isJoining copiesMade joinEnded without replacing telling permitting removing givingUp stampFor asking allPermit permits directIn isOpen openPlace openNumbers
+unfolding points isQuorum chainWrite answersRead chainAdvancing isJoinSet isReadPlace isReadReplica readReplicaNumber isNotAbove isUnmarked goesDirectly isSound hasRow isContextReply isContext allHold allTrue gives lone copies emptyList markedAll switchOfP4 switchOfP7 storeOfP6 readOfP6 sends writeOfP10 storeOfP11 stampOf numberOf counterOf isAbove largerOf stampIn setStamp entryStampCell noneOpen openCount lastGiven roomToOpen indexOf listOf moves entryCell valueCell stampCell storeCells liveCount orderAt numberAt members rowOf highestOf permittedBy appliedBy valueAt stampAt logged tabled raised memberAt headOf tailOf numbers placeOfNumber isMember isTail tableOf numberInChain headNumber tailNumber chosenBy removed emptyCells numbered emptyStore linkedWrites accepts nextPosition applying taking answersDirect numberIn counterIn committedIn slotObject slotStamp firstSlot secondSlot thirdSlot holdsObject countsAbove isFree holdsAbove freeSlot slotFor markAbove lookedUp nextStamp marking canMark marked isCompleted clearedAt completed newSwitch countedTo countedMarks heldIn noneWait lookAt takesOut leftBy fits afterTaking adding edited packetOf messageOf isUnstamped isOfContext refusing passing overfull directRead stampedWrite deliveredMessage startRefused startAnswer beginOperation delivered copied repeated positionOf isMalformed decided decidedIn answerTo after context-points naming beginContext allOf placeOf sizeOf numbersOf isCount isObject areObjects standsFirst areDifferent emptyAt isNaming rowCell sizeAt freeRow opening marks-points stored several marksAfter marksIn lessOne oneMore marksFor isOwn raising committing leaving released dropping stamping unstampedWrite switchRead normalRead completion reply lost advancing pendingAt oldest handingOn isCopied isJoining copiesMade joinEnded without replacing telling permitting removing givingUp stampFor asking allPermit permits directIn isOpen openPlace openNumbers
 holds = record { points-hold = refl; context-points-hold = refl; marks-points-hold = refl }

@@ -1,7 +1,7 @@
 -- What a step answers, and that a refused step changes nothing: of every machine, whatever its lists hold.
 use mathlib.Core.Path.{_≡_, refl, sym, ap, subst}
 use mathlib.Core.Logic.{_⊎_, inl, inr, _↔_}
-use mathlib.Core.Bool.{Bool, true, false, cond}
+use mathlib.Core.Bool.{Bool, true, false, cond, not}
 use Prim.Native.Nat.{ℕ, _≤_}
 use native.Mathlib.Omega.{arith}
 use lib.Dec.{eqb, leb, ltb, T, when}
@@ -14,7 +14,7 @@ use Rattle.protocol.specs.declared.Refusal.the-variants.{Format}
 use Rattle.protocol.specs.declared.Answer.{Answer}
 use Rattle.protocol.specs.declared.Answer.the-variants.{Done, Finished, FinishedContext, Refused}
 use Rattle.protocol.specs.declared.Setup.{Setup}
-use Rattle.protocol.specs.declared.Setup.the-variants.{Chain}
+use Rattle.protocol.specs.declared.Setup.the-variants.{Chain, Quorum}
 use Rattle.protocol.specs.declared.Step.{Step}
 use Rattle.protocol.specs.declared.Step.the-variants.{Start}
 use Rattle.protocol.specs.Answers.{refusalNumber}
@@ -25,9 +25,9 @@ use Rattle.protocol.specs.Steps.{Machine, machine, givenBy, outcomeOf, i
 use Rattle.protocol.specs.Steps.{answerTo, after, started, startSwitch, startStore, startOpens, startWaiting, afterStart}
 use Rattle.protocol.proofs.Effects.{IsDeliver, isStepNumber, AnswerEffect, packetAt, effect}
 
--- what a step can answer: done, an operation finished, or a refusal with number 1, 3 to 13 or 15 to 19
+-- what a step can answer: done, an operation finished, or a refusal with number 1, 3 to 13, 15 to 19, 23 or 24
 abbrev pub StepNumber : ℕ → Type 0
-StepNumber n = (n ≡ 1) ⊎ ((3 ≤ n) × (n ≤ 13)) ⊎ ((15 ≤ n) × (n ≤ 19))
+StepNumber n = (n ≡ 1) ⊎ ((3 ≤ n) × (n ≤ 13)) ⊎ ((15 ≤ n) × (n ≤ 19)) ⊎ ((23 ≤ n) × (n ≤ 24))
 
 abbrev pub StepAnswer : Answer → Type 0
 StepAnswer a = (a ≡ Done)
@@ -42,14 +42,15 @@ passed false h = absurd h
 
 -- the test and the numbers
 step-number : (n : ℕ) → isStepNumber n ≡ true → StepNumber n
-step-number n = go (eqb n 1) refl (leb 15 n) refl (leb 3 n) refl
+step-number n = go (eqb n 1) refl (leb 23 n) refl (leb 15 n) refl (leb 3 n) refl
   where
-    go : (s : Bool) → eqb n 1 ≡ s → (l : Bool) → leb 15 n ≡ l → (t : Bool) → leb 3 n ≡ t
-        → cond s true (cond l (leb n 19) (cond t (leb n 13) false)) ≡ true → StepNumber n
-    go true e l d t f h = inl (eqb-true n 1 e)
-    go false e true d t f h = inr (inr (leb-true 15 n d, leb-true n 19 h))
-    go false e false d true f h = inr (inl (leb-true 3 n f, leb-true n 13 h))
-    go false e false d false f h = absurd (subst T (sym h) tt)
+    go : (s : Bool) → eqb n 1 ≡ s → (k : Bool) → leb 23 n ≡ k → (l : Bool) → leb 15 n ≡ l → (t : Bool) → leb 3 n ≡ t
+        → cond s true (cond k (leb n 24) (cond l (leb n 19) (cond t (leb n 13) false))) ≡ true → StepNumber n
+    go true e k c l d t f h = inl (eqb-true n 1 e)
+    go false e true c l d t f h = inr (inr (inr (leb-true 23 n c, leb-true n 24 h)))
+    go false e false c true d t f h = inr (inr (inl (leb-true 15 n d, leb-true n 19 h)))
+    go false e false c false d true f h = inr (inl (leb-true 3 n f, leb-true n 13 h))
+    go false e false c false d false f h = absurd (subst T (sym h) tt)
 
 -- every step of a machine
 module _ (m : Machine) (x : Step) where
@@ -101,6 +102,17 @@ start-accepted n = (to (eqb n 0) refl, λ h. rw (ne-eqb n 0 (omega arith)) (le-l
     to : (t : Bool) → eqb n 0 ≡ t → cond t true (ltb limits.replicas n) ≡ false → (1 ≤ n) × (n ≤ limits.replicas)
     to true z e = absurd (subst T e tt)
     to false z e = omega (arith, eqb-false n 0 z, ltb-false limits.replicas n e)
+
+-- Req 11: a quorum store starts with 3, 5 or 7
+pub quorum-accepted : (n : ℕ) → startRefused (Quorum n) ≡ false → (3 ≤ n) × (n ≤ 7)
+unfolding startRefused
+quorum-accepted n = go (eqb n 3) refl (eqb n 5) refl (eqb n 7) refl
+  where
+    go : (a : Bool) → eqb n 3 ≡ a → (b : Bool) → eqb n 5 ≡ b → (c : Bool) → eqb n 7 ≡ c → cond a false (cond b false (not c)) ≡ false → (3 ≤ n) × (n ≤ 7)
+    go true p b q c r e = omega (arith, eqb-true n 3 p)
+    go false p true q c r e = omega (arith, eqb-true n 5 q)
+    go false p false q true r e = omega (arith, eqb-true n 7 r)
+    go false p false q false r e = absurd (subst T e tt)
 
 -- it is refused or done
 pub start-cases : (b : Setup) → ((startRefused b ≡ true) × (startAnswer b ≡ Refused (startRefusal b))) ⊎ ((startRefused b ≡ false) × (startAnswer b ≡ Done))

@@ -6,14 +6,14 @@ use denote.Enum.Declared.{tagOf as variantOf}
 use types.Run.{OneOf, miss}
 use Rattle.protocol.specs.declared.Setup.the-variants.{Missing}
 use Rattle.protocol.specs.declared.Step.{Step}
-use Rattle.protocol.specs.declared.Step.the-variants.{Start, BeginRead, BeginWrite, Deliver, Lose, Repeat, Advance, Replace, Tell, Remove, GiveUp, BeginContext, Join, Copy}
+use Rattle.protocol.specs.declared.Step.the-variants.{Start, BeginRead, BeginWrite, Deliver, Lose, Repeat, Advance, Replace, Tell, Remove, GiveUp, BeginContext, Join, Copy, Execute}
 use Rattle.protocol.specs.Starts.{setupOf}
 use Rattle.protocol.specs.Steps.{positionOf}
 use Rattle.protocol.proofs.Step as step
 
 -- every step but a start
 abbrev later : List ℕ
-later = 1 ∷ 2 ∷ 3 ∷ 4 ∷ 5 ∷ 6 ∷ 7 ∷ 8 ∷ 9 ∷ 10 ∷ 11 ∷ 12 ∷ 13 ∷ []
+later = 1 ∷ 2 ∷ 3 ∷ 4 ∷ 5 ∷ 6 ∷ 7 ∷ 8 ∷ 9 ∷ 10 ∷ 11 ∷ 12 ∷ 13 ∷ 14 ∷ []
 
 pub no-setup : (x : Step) → OneOf later (variantOf step.the-type x) → Missing ≡ setupOf x
 no-setup (Start b) i = absurd (miss later 0 tt i)
@@ -30,10 +30,11 @@ no-setup (GiveUp o) i = refl
 no-setup (BeginContext x) i = refl
 no-setup Join i = refl
 no-setup Copy i = refl
+no-setup Execute i = refl
 
 -- every step but one of a packet
 abbrev packetless : List ℕ
-packetless = 0 ∷ 1 ∷ 2 ∷ 6 ∷ 7 ∷ 8 ∷ 9 ∷ 10 ∷ 11 ∷ 12 ∷ 13 ∷ []
+packetless = 0 ∷ 1 ∷ 2 ∷ 6 ∷ 7 ∷ 8 ∷ 9 ∷ 10 ∷ 11 ∷ 12 ∷ 13 ∷ 14 ∷ []
 
 pub no-position : (x : Step) → OneOf packetless (variantOf step.the-type x) → _≡_ {A = ℕ} 0 (positionOf x)
 unfolding positionOf
@@ -51,3 +52,4 @@ no-position (GiveUp o) i = refl
 no-position (BeginContext x) i = refl
 no-position Join i = refl
 no-position Copy i = refl
+no-position Execute i = refl

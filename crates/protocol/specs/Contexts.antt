@@ -7,13 +7,12 @@ use Rattle.contexts.specs.declared.Context.{Context}
 use Rattle.contexts.specs.{numbersOf, mapped, isCount, isContext, contextAt, holding, freeing}
 use Rattle.store.specs.{valueAt}
 use Rattle.chain.specs.{isMember, isReadReplica, tableOf, readReplicaNumber, chosenBy}
-use Rattle.replicas.specs.Replicas.{answersDirect}
 use Rattle.switch.specs.Numbers.{numberIn, committedIn}
 use Rattle.waiting.specs.declared.Packet.{Packet}
 use Rattle.protocol.specs.declared.Answer.the-variants.{FinishedContext}
 use Rattle.protocol.specs.declared.Message.the-variants.{DirectContext, NormalContext, ContextReply}
 use Rattle.protocol.specs.Messages.{isOfContext, isContextReply}
-use Rattle.protocol.specs.Reads.{goesDirectly}
+use Rattle.protocol.specs.Reads.{goesDirectly, answersRead}
 use Rattle.protocol.specs.Decisions.{Opened, opened, takeOut, dropping, passing}
 
 -- ---- the row of a packet
@@ -54,7 +53,7 @@ answeringContext s opens at q o r = opened (passing at (ContextReply o r)) (hold
 unfoldable pub directContext : List ℕ → List ℕ → ℕ → ℕ → ℕ → ℕ → ℕ → ℕ → Opened
 directContext s opens at q number t o r =
     cond (isMember s q)
-    (cond (answersDirect s (tableOf s q) number t (numbersOf (contextAt opens r)))
+    (cond (answersRead s (tableOf s q) number t (numbersOf (contextAt opens r)))
     (answeringContext s opens at (tableOf s q) o r)
     (opened (passing at (NormalContext (readReplicaNumber s) o r)) opens))
     (droppingRow opens at r)

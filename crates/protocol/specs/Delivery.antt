@@ -5,22 +5,23 @@ use Prim.Native.Nat.{ℕ}
 use lib.Dec.{eqb}
 use Rattle.operations.specs.{isOpen, closing}
 use Rattle.store.specs.declared.Write.{Write}
-use Rattle.store.specs.{valueAt, stampAt}
+use Rattle.store.specs.{valueAt, stampAt, isQuorum}
+use Rattle.quorum.specs.{logs, logging, acknowledging}
 use Rattle.stamp.specs.Stamps.{isAbove}
 use Rattle.chain.specs.{isMember, isTail, isReadReplica, tableOf, headNumber, readReplicaNumber, chosenBy, allPermit}
 use Rattle.joins.specs.{handingOn}
-use Rattle.replicas.specs.Replicas.{accepts, taking, answersDirect}
+use Rattle.replicas.specs.Replicas.{accepts, taking}
 use Rattle.switch.specs.Numbers.{numberIn, committedIn}
 use Rattle.switch.specs.DirtySet.{lookedUp, marked, stampFor, completed}
 use Rattle.waiting.specs.declared.Edit.{Edit}
 use Rattle.protocol.specs.declared.Refusal.the-variants.{WaitingFull}
 use Rattle.protocol.specs.declared.Answer.the-variants.{Finished}
 use Rattle.protocol.specs.declared.Message.{Message}
-use Rattle.protocol.specs.declared.Message.the-variants.{UnstampedWrite, SwitchRead, StampedWrite, DirectRead, NormalRead, Completion, Reply, ContextRead, DirectContext, NormalContext, ContextReply, Unknown}
+use Rattle.protocol.specs.declared.Message.the-variants.{UnstampedWrite, SwitchRead, StampedWrite, DirectRead, NormalRead, Completion, Reply, ContextRead, DirectContext, NormalContext, ContextReply, Acknowledgement, Unknown}
 use Rattle.protocol.specs.declared.Decision.{Decision}
 use Rattle.protocol.specs.Answers.{noFreshness, oldRead, newRead}
 use Rattle.protocol.specs.Messages.{replyTo, completionOf}
-use Rattle.protocol.specs.Reads.{goesDirectly}
+use Rattle.protocol.specs.Reads.{goesDirectly, answersRead}
 use Rattle.protocol.specs.Contexts.{contextRead, directContext, normalContext, contextReply}
 use Rattle.protocol.specs.Decisions.{Given, Outcome, Switched, Stored, Opened, switched, stored, opened, keeping, changingSwitch, changingStore, changingOpens}
 use Rattle.protocol.specs.Decisions.{deciding, takeOut, takeOutAddTwo, refusing, dropping, passing, overfull}
@@ -51,8 +52,8 @@ answering at w = takeOutAddTwo at (replyTo w) (completionOf w)
 
 -- 'Stamped write, to a replica. Dropped if that replica is gone, if the stamp is not above its highest, or if the links hold 64. Otherwise it is applied
 -- and put in the link to the next replica. A lone replica acts as tail at the same time.' Req 04: what the tail applies reaches a newcomer that has its copy of the object
-unfoldable pub stampedWrite : List ℕ → ℕ → ℕ → ℕ → Write → Stored
-stampedWrite s held at r w =
+unfoldable pub chainWrite : List ℕ → ℕ → ℕ → ℕ → Write → Stored
+chainWrite s held at r w =
     cond (isMember s r)
     (cond (accepts s (tableOf s r) (w .stamp))
     (cond (isTail s r)
@@ -61,12 +62,25 @@ stampedWrite s held at r w =
     (stored (dropping at) s))
     (stored (dropping at) s)
 
+-- Req 11: 'The leader logs stamped writes in rising order', and a write that it does not log is dropped. A stamped write of a run is for the leader
+unfoldable pub leaderWrite : List ℕ → ℕ → Write → Stored
+leaderWrite s at w = stored (dropping at) (cond (logs s (w .stamp)) (logging s w) s)
+
+-- by the kind of store
+unfoldable pub stampedWrite : List ℕ → ℕ → ℕ → ℕ → Write → Stored
+stampedWrite s held at r w = cond (isQuorum s) (leaderWrite s at w) (chainWrite s held at r w)
+
+-- Req 11: 'an acknowledgement packet, which covers all earlier entries too and can be lost, repeated or late', to the leader
+unfoldable pub acknowledgement : List ℕ → ℕ → ℕ → ℕ → Stored
+acknowledgement s at q k =
+    cond (isQuorum s) (cond (isMember s q) (stored (dropping at) (acknowledging s (tableOf s q) k)) (stored (dropping at) s)) (stored (dropping at) s)
+
 -- 'Direct read, to a replica. Dropped if gone. Answered with the object's value if the read's switch number is the one this replica permits and the
 -- object's stamp is not above the stamp carried. Otherwise it becomes a normal read to the tail.'
 unfoldable pub directRead : List ℕ → ℕ → ℕ → ℕ → ℕ → ℕ → ℕ → Decision
 directRead s at r number t o x =
     cond (isMember s r)
-    (cond (answersDirect s (tableOf s r) number t (x ∷ []))
+    (cond (answersRead s (tableOf s r) number t (x ∷ []))
     (passing at (Reply o (valueAt s (tableOf s r) x) 0 noFreshness))
     (passing at (NormalRead (readReplicaNumber s) o x 0)))
     (dropping at)
@@ -108,4 +122,5 @@ deliveredMessage g at choice (ContextRead o r) = changingOpens g (contextRead (g
 deliveredMessage g at choice (DirectContext q number t o r) = changingOpens g (directContext (g .store) (g .opens) at q number t o r)
 deliveredMessage g at choice (NormalContext q o r) = changingOpens g (normalContext (g .store) (g .opens) at q o r)
 deliveredMessage g at choice (ContextReply o r) = changingOpens g (contextReply (g .opens) at o r)
+deliveredMessage g at choice (Acknowledgement q k) = changingStore g (acknowledgement (g .store) at q k)
 deliveredMessage g at choice Unknown = keeping g (dropping at)

@@ -7,7 +7,7 @@ use Rattle.waiting.specs.declared.Packet.{Packet}
 use Rattle.waiting.specs.Waiting.{blank}
 use Rattle.protocol.specs.Answers.{noFreshness}
 use Rattle.protocol.specs.declared.Message.{Message}
-use Rattle.protocol.specs.declared.Message.the-variants.{UnstampedWrite, SwitchRead, StampedWrite, DirectRead, NormalRead, Completion, Reply, ContextRead, DirectContext, NormalContext, ContextReply, Unknown}
+use Rattle.protocol.specs.declared.Message.the-variants.{UnstampedWrite, SwitchRead, StampedWrite, DirectRead, NormalRead, Completion, Reply, ContextRead, DirectContext, NormalContext, ContextReply, Acknowledgement, Unknown}
 
 abbrev pub packet : ℕ → ℕ → ℕ → ℕ → ℕ → ℕ → ℕ → Packet
 packet kind replica number operation object value stamp =
@@ -26,6 +26,7 @@ packetOf (ContextRead o r) = packet 8 0 0 o 0 r 0
 packetOf (DirectContext q number t o r) = packet 9 q number o 0 r t
 packetOf (NormalContext q o r) = packet 10 q 0 o 0 r 0
 packetOf (ContextReply o r) = packet 11 0 0 o 0 r 0
+packetOf (Acknowledgement q k) = packet 12 q 0 0 0 k 0
 packetOf Unknown = blank
 
 -- 'The tail, on applying a write, sends a reply with the written value, then a completion with object and stamp.'
@@ -45,7 +46,7 @@ contextMessage p =
     cond (eqb (p .kind) 8) (ContextRead (p .operation) (p .value))
     (cond (eqb (p .kind) 9) (DirectContext (p .replica) (p .number) (p .stamp) (p .operation) (p .value))
     (cond (eqb (p .kind) 10) (NormalContext (p .replica) (p .operation) (p .value))
-    (cond (eqb (p .kind) 11) (ContextReply (p .operation) (p .value)) Unknown)))
+    (cond (eqb (p .kind) 11) (ContextReply (p .operation) (p .value)) (cond (eqb (p .kind) 12) (Acknowledgement (p .replica) (p .value)) Unknown))))
 
 -- the message that a packet holds
 unfoldable pub messageOf : Packet → Message

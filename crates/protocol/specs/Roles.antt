@@ -3,7 +3,7 @@ use mathlib.Core.List.{List, [], _∷_}
 use Prim.Native.Nat.{ℕ}
 use Rattle.contexts.specs.{contextOf, numbersOf}
 use Rattle.protocol.specs.declared.Step.{Step}
-use Rattle.protocol.specs.declared.Step.the-variants.{Start, BeginRead, BeginWrite, Deliver, Lose, Repeat, Advance, Replace, Tell, Remove, GiveUp, BeginContext, Join, Copy}
+use Rattle.protocol.specs.declared.Step.the-variants.{Start, BeginRead, BeginWrite, Deliver, Lose, Repeat, Advance, Replace, Tell, Remove, GiveUp, BeginContext, Join, Copy, Execute}
 
 -- a client begins a read of these objects, or a write; the packet at a position is delivered, lost or repeated; an operation is given up; a replica is removed, or copied to; or none of these
 pub data Role : Type 0 where
@@ -32,6 +32,7 @@ roleOf (GiveUp o) = GivesUp o
 roleOf (BeginContext x) = Reads (numbersOf (contextOf x))
 roleOf Join = Other
 roleOf Copy = Copies
+roleOf Execute = Other
 
 -- the position of the waiting list that it looks at
 abbrev pub positionAs : Role → ℕ

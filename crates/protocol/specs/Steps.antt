@@ -9,25 +9,26 @@ use Rattle.operations.specs.{lastGiven, noneOpen, isOpen, roomToOpen, opening, 
 use Rattle.contexts.specs.declared.Objects.{Objects}
 use Rattle.contexts.specs.{contextOf, areObjects, areDifferent, isNaming, contextAt, freeRow, holding}
 use Rattle.store.specs.declared.Write.{Write}
-use Rattle.store.specs.{liveCount}
-use Rattle.chain.specs.{placeOf, isMember, isTail, tableOf, permitting, emptyStore}
-use Rattle.replicas.specs.Replicas.{applying, pendingAt, oldest}
+use Rattle.store.specs.{liveCount, isQuorum}
+use Rattle.quorum.specs.{loggedBy, linkedItems, nextIsEntry, nextEntry, countLogged, executes, executing, quorumStore}
+use Rattle.chain.specs.{headOf, placeOf, isMember, isTail, tableOf, permitting, emptyStore}
+use Rattle.replicas.specs.Replicas.{nextPosition, applying, pendingAt, oldest}
 use Rattle.joins.specs.{isFull, isJoining, beginning, copying, handingOn, without}
 use Rattle.switch.specs.Numbers.{numberIn, marksIn}
 use Rattle.switch.specs.DirtySet.{newSwitch}
 use Rattle.waiting.specs.declared.Packet.{Packet}
 use Rattle.waiting.specs.declared.Edit.{Edit}
 use Rattle.waiting.specs.Waiting.{WaitingList, held, lookAt, edited, noneWait}
-use Rattle.protocol.specs.declared.Refusal.the-variants.{Format, ObjectNumber, OperationsUsedUp, OpenFull, WaitingFull, NoPacket, UnstampedRepeat, NotLive, NoLinkedWrite, SwitchNumber, LastReplica, NotOpen, BufferTooShort, SameObject, ChainFull, JoinUnderWay, NoJoin}
+use Rattle.protocol.specs.declared.Refusal.the-variants.{Format, ObjectNumber, OperationsUsedUp, OpenFull, WaitingFull, NoPacket, UnstampedRepeat, NotLive, NoLinkedWrite, SwitchNumber, LastReplica, NotOpen, BufferTooShort, SameObject, ChainFull, JoinUnderWay, NoJoin, WrongStore, NothingToExecute}
 use Rattle.protocol.specs.declared.Answer.{Answer}
 use Rattle.protocol.specs.declared.Answer.the-variants.{Done, Refused}
 use Rattle.protocol.specs.declared.Stepped.{Stepped}
 use Rattle.protocol.specs.declared.Message.{Message}
-use Rattle.protocol.specs.declared.Message.the-variants.{UnstampedWrite, SwitchRead, ContextRead}
+use Rattle.protocol.specs.declared.Message.the-variants.{UnstampedWrite, SwitchRead, ContextRead, Acknowledgement}
 use Rattle.protocol.specs.declared.Setup.{Setup}
-use Rattle.protocol.specs.declared.Setup.the-variants.{Missing, Chain}
+use Rattle.protocol.specs.declared.Setup.the-variants.{Missing, Chain, Quorum}
 use Rattle.protocol.specs.declared.Step.{Step}
-use Rattle.protocol.specs.declared.Step.the-variants.{Start, BeginRead, BeginWrite, Deliver, Lose, Repeat, Advance, Replace, Tell, Remove, GiveUp, BeginContext, Join, Copy}
+use Rattle.protocol.specs.declared.Step.the-variants.{Start, BeginRead, BeginWrite, Deliver, Lose, Repeat, Advance, Replace, Tell, Remove, GiveUp, BeginContext, Join, Copy, Execute}
 use Rattle.protocol.specs.Starts.{startRefused}
 use Rattle.protocol.specs.Roles.{roleOf, positionAs}
 use Rattle.protocol.specs.Messages.{packetOf, replyTo, completionOf, messageOf, isUnstamped, isOfContext, inRow}
@@ -54,6 +55,7 @@ machine switch store opens w = record { switch = switch; store = store; opens = 
 abbrev pub newStore : Setup → List ℕ
 newStore Missing = emptyStore 0
 newStore (Chain n) = emptyStore n
+newStore (Quorum n) = quorumStore n
 
 -- 'An empty store is the state that an accepted start gives, with no packet waiting', whatever the lent places hold
 unfoldable pub started : Setup → List Packet → Machine
@@ -142,8 +144,8 @@ abbrev pub sending : Write → Edit
 sending w = addTwo (replyTo w) (completionOf w)
 
 -- 'this replica applies the oldest write of its incoming link, and passes it on unless it is the tail'. Order: 9, 10, 6
-unfoldable pub advancing : List ℕ → ℕ → ℕ → Stored
-advancing s held r =
+unfoldable pub chainAdvancing : List ℕ → ℕ → ℕ → Stored
+chainAdvancing s held r =
     cond (isMember s r)
     (cond (eqb (pendingAt s (placeOf s r) (tableOf s r)) 0) (stored (refusing NoLinkedWrite) s)
     (cond (isTail s r)
@@ -151,6 +153,33 @@ advancing s held r =
     (stored (deciding (sending (oldest s (tableOf s r)))) (handingOn (applying s (tableOf s r) (oldest s (tableOf s r))) (oldest s (tableOf s r)))))
     (stored (deciding noEdit) (applying s (tableOf s r) (oldest s (tableOf s r))))))
     (stored (refusing NotLive) s)
+
+-- Req 11: 'Advancing a follower logs the entry and sends the leader an acknowledgement packet': what the leader is told is how many it has logged
+abbrev pub acknowledges : List ℕ → ℕ → Packet
+acknowledges s r = packetOf (Acknowledgement r (nextPosition (loggedBy s (tableOf s r))))
+
+-- the oldest item of a follower's link is taken: an entry, or an executed stamp. Order: 9, 10, 6; the leader has no link
+unfoldable pub followerAdvancing : List ℕ → ℕ → ℕ → Stored
+followerAdvancing s held r =
+    cond (isMember s r)
+    (cond (eqb (linkedItems s (tableOf s r)) 0) (stored (refusing NoLinkedWrite) s)
+    (cond (nextIsEntry s (tableOf s r))
+    (cond (overfull held 0 1) (stored (refusing WaitingFull) s) (stored (deciding (addOne (acknowledges s r))) (countLogged s (tableOf s r))))
+    (stored (deciding noEdit) (applying s (tableOf s r) (nextEntry s (tableOf s r))))))
+    (stored (refusing NotLive) s)
+
+-- by the kind of store
+unfoldable pub advancing : List ℕ → ℕ → ℕ → Stored
+advancing s held r = cond (isQuorum s) (followerAdvancing s held r) (chainAdvancing s held r)
+
+-- Req 11, tag 14: 'makes the leader execute the next write that a majority holds .., send reply and completion, and put its executed stamp in every link'. Order: 23, 24, 6
+unfoldable pub executingOn : List ℕ → ℕ → Stored
+executingOn s held =
+    cond (isQuorum s)
+    (cond (executes s)
+    (cond (overfull held 0 2) (stored (refusing WaitingFull) s) (stored (deciding (sending (nextEntry s (headOf s)))) (executing s)))
+    (stored (refusing NothingToExecute) s))
+    (stored (refusing WrongStore) s)
 
 -- 'replace the switch by this number'; 11 if it is not above the present one
 unfoldable pub replacing : List ℕ → ℕ → Switched
@@ -160,19 +189,22 @@ replacing w number = cond (leb number (numberIn w)) (switched (refusing SwitchNu
 unfoldable pub telling : List ℕ → List ℕ → ℕ → Stored
 telling w s r = cond (isMember s r) (stored (deciding noEdit) (permitting s (tableOf s r) (numberIn w))) (stored (refusing NotLive) s)
 
--- 'remove this replica'. Order: 9, 12
+-- 'remove this replica'. Order: 9, 12; Req 11: '23 for tags 9, 12 and 13 here .., before any other'
 unfoldable pub removing : List ℕ → ℕ → Stored
 removing s r =
-    cond (isMember s r) (cond (leb (liveCount s) 1) (stored (refusing LastReplica) s) (stored (deciding noEdit) (without s r))) (stored (refusing NotLive) s)
+    cond (isQuorum s) (stored (refusing WrongStore) s)
+    (cond (isMember s r) (cond (leb (liveCount s) 1) (stored (refusing LastReplica) s) (stored (deciding noEdit) (without s r))) (stored (refusing NotLive) s))
 
 -- Req 04, tag 12: 'a join'. Order: 17, 18
 unfoldable pub joining : List ℕ → Stored
 joining s =
-    cond (isFull s) (stored (refusing ChainFull) s) (cond (isJoining s) (stored (refusing JoinUnderWay) s) (stored (deciding noEdit) (beginning s)))
+    cond (isQuorum s) (stored (refusing WrongStore) s)
+    (cond (isFull s) (stored (refusing ChainFull) s) (cond (isJoining s) (stored (refusing JoinUnderWay) s) (stored (deciding noEdit) (beginning s))))
 
 -- Req 04, tag 13: a copy to the newcomer; 19 if none joins
 unfoldable pub copyingOn : List ℕ → Stored
-copyingOn s = cond (isJoining s) (stored (deciding noEdit) (copying s)) (stored (refusing NoJoin) s)
+copyingOn s =
+    cond (isQuorum s) (stored (refusing WrongStore) s) (cond (isJoining s) (stored (deciding noEdit) (copying s)) (stored (refusing NoJoin) s))
 
 -- 'give up this operation; it stays unfinished for good'
 unfoldable pub givingUp : List ℕ → ℕ → Opened
@@ -200,6 +232,7 @@ decided g p (GiveUp o) = changingOpens g (givingUp (g .opens) o)
 decided g p (BeginContext x) = changingOpens g (beginContext (g .opens) (g .held) x)
 decided g p Join = changingStore g (joining (g .store))
 decided g p Copy = changingStore g (copyingOn (g .store))
+decided g p Execute = changingStore g (executingOn (g .store) (g .held))
 
 -- a step that is none, one with a switch number of more than 16 bits, or one with another number of objects than 2 to 8: 1, before anything else
 unfoldable pub isMalformed : Step → Bool
@@ -217,6 +250,7 @@ isMalformed (GiveUp o) = false
 isMalformed (BeginContext x) = not (isNaming x)
 isMalformed Join = false
 isMalformed Copy = false
+isMalformed Execute = false
 
 -- then 15, where fewer than 64 places are lent for the packets; then the step itself
 unfoldable pub decidedIn : ℕ → Given → Packet → Step → Outcome

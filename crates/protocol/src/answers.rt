@@ -35,5 +35,7 @@ pub fn refusal_number(r: Refusal) -> u8
         Refusal::ChainFull => 17,
         Refusal::JoinUnderWay => 18,
         Refusal::NoJoin => 19,
+        Refusal::WrongStore => 23,
+        Refusal::NothingToExecute => 24,
     }
 }

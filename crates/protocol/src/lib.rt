@@ -16,10 +16,11 @@ use limits::Value;
 use store::Write;
 use waiting::Edit;
 
-// What a start sets up: none, where there is no start record; or a chain of so many replicas (document 01, tag 32).
+// What a start sets up: none, where there is no start record; or a chain of so many replicas (document 01, tag 32), or a quorum store of so many (document 02, Req 11, tag 33).
 pub enum Setup {
     Missing,
     Chain(u8),
+    Quorum(u8),
 }
 
 // Document 01, 'Steps and their records'. The fields have the widths that the records give them.
@@ -38,6 +39,7 @@ pub enum Step {
     BeginContext(Objects),
     Join,
     Copy,
+    Execute,
 }
 
 // Document 01, 'Turned down': a refusal for each row of the table.
@@ -61,6 +63,8 @@ pub enum Refusal {
     ChainFull,
     JoinUnderWay,
     NoJoin,
+    WrongStore,
+    NothingToExecute,
 }
 
 // A step was done; or done, and it finished an operation with a value and what a read says of a pending write, or a read of a whole context with its values; or refused.
@@ -72,7 +76,7 @@ pub enum Answer {
 }
 
 // A packet by its kind: document 01, 'What delivery does'. The stamp of a normal read and of a reply is that of the pending write that the read goes round, (0,0) where
-// there is none. The last four are of a read of a whole context, whose row in crates/contexts they name.
+// there is none. Four are of a read of a whole context, whose row in crates/contexts they name. An acknowledgement is of a follower, and says how many entries of the leader's log it has.
 pub enum Message {
     UnstampedWrite(Operation, Object, Value),
     SwitchRead(Operation, Object),
@@ -85,6 +89,7 @@ pub enum Message {
     DirectContext(Replica, Number, Stamp, Operation, u32),
     NormalContext(Replica, Operation, u32),
     ContextReply(Operation, u32),
+    Acknowledgement(Replica, u32),
     Unknown,
 }
 

@@ -1,5 +1,6 @@
 // The start: what a step sets up, and whether that is refused.
 ghost use mathlib.Core.Path.{_≡_};
+ghost use Rattle.protocol.specs.declared.Setup.the-variants.{Quorum};
 ghost use Rattle.protocol.specs.Starts.{setupOf, startRefused, startRefusal, startAnswer};
 use crate::Answer;
 use crate::Refusal;
@@ -17,6 +18,19 @@ pub fn setup_of(x: Step) -> Setup
     }
 }
 
+// Whether a quorum store of so many replicas is refused.
+fn quorum_refused(n: u8) -> bool
+    ensures { λ r. ⌜ r ≡ startRefused (Quorum n) ⌝ }
+{
+    if n == 3 {
+        return false;
+    }
+    if n == 5 {
+        return false;
+    }
+    n != 7
+}
+
 // Whether a start is refused.
 pub fn is_refused(b: Setup) -> bool
     ensures { λ r. ⌜ r ≡ startRefused b ⌝ }
@@ -29,6 +43,7 @@ pub fn is_refused(b: Setup) -> bool
             }
             REPLICAS < (n as usize)
         }
+        Setup::Quorum(n) => quorum_refused(n),
     }
 }
 
@@ -39,6 +54,7 @@ pub fn refusal(b: Setup) -> Refusal
     match b {
         Setup::Missing => Refusal::Format,
         Setup::Chain(n) => Refusal::Replicas,
+        Setup::Quorum(n) => Refusal::Replicas,
     }
 }
 

@@ -18,7 +18,6 @@ use Rattle.contexts.proofs.Places.{context-known}
 use Rattle.contexts.proofs.Rows.{size-is}
 use Rattle.store.specs.{valueAt, stampAt}
 use Rattle.chain.specs.{isMember, isReadReplica, tableOf, readReplicaNumber, chosenBy}
-use Rattle.replicas.specs.Replicas.{answersDirect}
 use Rattle.switch.specs.Numbers.{numberIn, committedIn}
 use Rattle.switch.specs.DirtySet.{lookedUp}
 use Rattle.waiting.specs.declared.Packet.{Packet}
@@ -29,12 +28,12 @@ use Rattle.protocol.specs.declared.Answer.{Answer}
 use Rattle.protocol.specs.declared.Answer.the-variants.{Done, Finished as FinishedWith, FinishedContext}
 use Rattle.protocol.specs.declared.Decision.{Decision}
 use Rattle.protocol.specs.declared.Message.{Message}
-use Rattle.protocol.specs.declared.Message.the-variants.{UnstampedWrite, SwitchRead, StampedWrite, DirectRead, NormalRead, Completion, Reply, ContextRead, DirectContext, NormalContext, ContextReply, Unknown}
+use Rattle.protocol.specs.declared.Message.the-variants.{UnstampedWrite, SwitchRead, StampedWrite, DirectRead, NormalRead, Completion, Reply, ContextRead, DirectContext, NormalContext, ContextReply, Acknowledgement, Unknown}
 use Rattle.protocol.specs.declared.Step.{Step}
 use Rattle.protocol.specs.declared.Step.the-variants.{Deliver}
 use Rattle.protocol.specs.Messages.{packetOf, messageOf, isOfContext, isContextReply}
 use Rattle.protocol.specs.Decisions.{Outcome, Opened, opened, keeping, changingOpens, takeOut, takeOutAdd, dropping, passing}
-use Rattle.protocol.specs.Reads.{goesDirectly}
+use Rattle.protocol.specs.Reads.{goesDirectly, answersRead}
 use Rattle.protocol.specs.Contexts.{hasRow, droppingRow, contextRead, answeringContext, directContext, normalContext, contextReply}
 use Rattle.protocol.specs.Delivery.{switchRead, directRead, freshness, normalRead, reply, deliveredMessage}
 use Rattle.protocol.specs.Steps.{Machine, givenBy, outcomeOf, isSound, delivered, decided, isMalformed, decidedIn, positionOf}
@@ -42,7 +41,8 @@ use Rattle.linearizability.specs.Run.{noted, openNoted}
 use Rattle.protocol.proofs.Effects.{Names, row-of}
 use Rattle.linearizability.proofs.Packets.{rowNumbers}
 use Rattle.linearizability.proofs.Waits.{Stands, stands-in, message-packet, at-position}
-use Rattle.linearizability.proofs.Invariant.{chain-held, Good, done}
+use Rattle.linearizability.proofs.Invariant.{Good, done}
+use Rattle.linearizability.proofs.Replicas.{some-live, in-places}
 use Rattle.linearizability.proofs.Opens.{Same}
 use Rattle.read_bound.specs.Follow.{Place, at, gone, becomes}
 use Rattle.read_bound.proofs.Positions.{fewer-wait, as-many-wait, last-packet}
@@ -100,7 +100,7 @@ module _ {m : Machine} {h : History} {es : List Entry} (g : Good m h es) (wide :
 
   -- the number of the replica that answers normal reads
   read-stage : (isMember s (readReplicaNumber s) ≡ true) × (isReadReplica s (readReplicaNumber s) ≡ true)
-  read-stage = (read-member s (chain-held (g .replicas) .joined .places) (chain-held (g .replicas) .shown .live), read-is-read s (chain-held (g .replicas) .joined .places) (chain-held (g .replicas) .shown .live))
+  read-stage = (read-member s (in-places (g .replicas)) (some-live (g .replicas)), read-is-read s (in-places (g .replicas)) (some-live (g .replicas)))
 
   -- the row that a waiting packet names
   counts : (msg : Message) → Stands (m .waiting) i msg → (r : ℕ) → Names msg r → isCount (contextAt (m .opens) r .count) ≡ true
@@ -115,13 +115,13 @@ module _ {m : Machine} {h : History} {es : List Entry} (g : Good m h es) (wide :
   own (SwitchRead p x) stands st =
       let P : Decision → Type 0 = λ d. Own (keeping (givenBy m) d) in
       both P (goesDirectly (m .switch) (x ∷ []))
-      (passes (DirectRead (chosenBy s choice) (numberIn (m .switch)) (committedIn (m .switch)) p x) (m .opens) (st .0, omega (arith, st .1), chosen-member s (chain-held (g .replicas) .joined .places) (chain-held (g .replicas) .shown .live) choice))
+      (passes (DirectRead (chosenBy s choice) (numberIn (m .switch)) (committedIn (m .switch)) p x) (m .opens) (st .0, omega (arith, st .1), chosen-member s (in-places (g .replicas)) (some-live (g .replicas)) choice))
       (passes (NormalRead (readReplicaNumber s) p x (lookedUp (m .switch) x)) (m .opens) (st .0, omega (arith, st .1), read-stage .0, read-stage .1))
   own (StampedWrite r w) stands st = absurd st
   own (DirectRead r number t p x) stands st =
       let P : Decision → Type 0 = λ d. Own (keeping (givenBy m) d) in
       rw (st .2)
-      (both P (answersDirect s (tableOf s r) number t (x ∷ []))
+      (both P (answersRead s (tableOf s r) number t (x ∷ []))
       (passes (Reply p (valueAt s (tableOf s r) x) 0 noFreshness) (m .opens) (st .0, omega (arith, st .1)))
       (passes (NormalRead (readReplicaNumber s) p x 0) (m .opens) (st .0, omega (arith, st .1), read-stage .0, read-stage .1)))
   own (NormalRead r p x t) stands st =
@@ -134,12 +134,12 @@ module _ {m : Machine} {h : History} {es : List Entry} (g : Good m h es) (wide :
   own (ContextRead p r) stands st =
       let P : Opened → Type 0 = λ u. Own (changingOpens (givenBy m) u) in
       both P (goesDirectly (m .switch) (rowNumbers (m .opens) r))
-      (passes (DirectContext (chosenBy s choice) (numberIn (m .switch)) (committedIn (m .switch)) p r) (m .opens) (st .0, omega (arith, st .1), chosen-member s (chain-held (g .replicas) .joined .places) (chain-held (g .replicas) .shown .live) choice))
+      (passes (DirectContext (chosenBy s choice) (numberIn (m .switch)) (committedIn (m .switch)) p r) (m .opens) (st .0, omega (arith, st .1), chosen-member s (in-places (g .replicas)) (some-live (g .replicas)) choice))
       (passes (NormalContext (readReplicaNumber s) p r) (m .opens) (st .0, omega (arith, st .1), read-stage .0, read-stage .1))
   own (DirectContext q number t p r) stands st =
       let P : Opened → Type 0 = λ u. Own (changingOpens (givenBy m) u) in
       rw (st .2)
-      (both P (answersDirect s (tableOf s q) number t (rowNumbers (m .opens) r))
+      (both P (answersRead s (tableOf s q) number t (rowNumbers (m .opens) r))
       (passes (ContextReply p r) (holding (m .opens) r (mapped (valueAt s (tableOf s q)) (contextAt (m .opens) r))) (st .0, omega (arith, st .1)))
       (passes (NormalContext (readReplicaNumber s) p r) (m .opens) (st .0, omega (arith, st .1), read-stage .0, read-stage .1)))
   own (NormalContext q p r) stands st =
@@ -150,6 +150,7 @@ module _ {m : Machine} {h : History} {es : List Entry} (g : Good m h es) (wide :
       by-test (λ (u : Opened). Own (changingOpens (givenBy m) u)) (isOpen (m .opens) p)
       (λ still. ends (FinishedContext p v) (freeing (closing (m .opens) p) r) refl (st .1) (numbersOf v, here (ap (λ (q : ℕ). finished q (numbersOf v)) (sym (st .0)))))
       (λ shut. ends Done (freeing (m .opens) r) refl (st .1) (closed p (st .0) shut))
+  own (Acknowledgement q n) stands st = absurd st
   own Unknown stands st = absurd st
 
   -- a row that a waiting packet names is there
@@ -167,6 +168,7 @@ module _ {m : Machine} {h : History} {es : List Entry} (g : Good m h es) (wide :
       row-context (DirectContext q number t p r) stands r p refl (g .core .packets .fine (DirectContext q number t p r) (stands-in stands) .0)
   row-there (NormalContext q p r) stands = row-context (NormalContext q p r) stands r p refl (g .core .packets .fine (NormalContext q p r) (stands-in stands))
   row-there (ContextReply p r) stands = counts (ContextReply p r) stands r refl
+  row-there (Acknowledgement q n) stands = refl
   row-there Unknown stands = refl
 
   -- the step itself, of a packet whose object there is

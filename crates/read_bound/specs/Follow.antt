@@ -10,7 +10,7 @@ use Rattle.joins.specs.{copiesMade}
 use Rattle.waiting.specs.Waiting.{held, lookAt}
 use Rattle.protocol.specs.Answers.{isAccepted}
 use Rattle.protocol.specs.declared.Message.{Message}
-use Rattle.protocol.specs.declared.Message.the-variants.{UnstampedWrite, SwitchRead, StampedWrite, DirectRead, NormalRead, Completion, Reply, ContextRead, DirectContext, NormalContext, ContextReply, Unknown}
+use Rattle.protocol.specs.declared.Message.the-variants.{UnstampedWrite, SwitchRead, StampedWrite, DirectRead, NormalRead, Completion, Reply, ContextRead, DirectContext, NormalContext, ContextReply, Acknowledgement, Unknown}
 use Rattle.protocol.specs.declared.Step.{Step}
 use Rattle.protocol.specs.Messages.{messageOf}
 use Rattle.protocol.specs.Roles.{Role, Reads, Writes, Delivers, Loses, Repeats, GivesUp, Removes, Copies, Other, roleOf}
@@ -137,6 +137,7 @@ stageOf (ContextRead p r) = AtSwitch p
 stageOf (DirectContext q number t p r) = AtReplica q p
 stageOf (NormalContext q p r) = AtReadReplica q p
 stageOf (ContextReply p r) = Replied p
+stageOf (Acknowledgement q k) = NoRead
 stageOf Unknown = NoRead
 
 -- the message asks the switch for a read of operation o, of one object or several

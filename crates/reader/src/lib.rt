@@ -2,7 +2,7 @@
 ghost use mathlib.Core.Path.{_≡_};
 ghost use Prim.Native.Nat.{_+_, _≤_, _<_};
 ghost use lib.ListN.{length};
-ghost use Rattle.records.specs.Records.{byteAt, twoAt, fourAt, objectsIn, operationIn, stepOf, recordOfKind, recordAt, inPlace, nextOf, nextAt};
+ghost use Rattle.records.specs.Records.{byteAt, twoAt, fourAt, objectsIn, operationIn, stepOf, recordOfKind, recordAt, isStart, inPlace, nextOf, nextAt};
 
 mod cursor;
 
@@ -15,6 +15,7 @@ use records::Found;
 use records::GIVE_UP_KIND;
 use records::NO_STEP;
 use records::Next;
+use records::QUORUM_KIND;
 use records::is_length;
 use records::is_short_give_up;
 use records::kind_of;
@@ -96,6 +97,8 @@ fn step_of(kind: usize, content: &[u8]) -> Step
         11 => Step::BeginContext(objects_in(content)),
         12 => Step::Join,
         13 => Step::Copy,
+        14 => Step::Execute,
+        15 => Step::Start(Setup::Quorum(byte_at(content, 0))),
         _ => Step::Start(Setup::Missing),
     }
 }
@@ -132,11 +135,22 @@ pub fn record_at(s: &[u8], at: usize) -> Found
     record_of_kind(kind, s, at)
 }
 
+// Whether the step is a start, of either kind of store.
+fn is_start(step: Step) -> bool
+    ensures { λ r. ⌜ r ≡ isStart step ⌝ }
+{
+    let kind = kind_of(step);
+    if kind == 0 {
+        return true;
+    }
+    kind == QUORUM_KIND
+}
+
 // A start belongs in first place, every other step in a later one.
 fn in_place(first: bool, step: Step) -> bool
     ensures { λ r. ⌜ r ≡ inPlace first step ⌝ }
 {
-    let start = kind_of(step) == 0;
+    let start = is_start(step);
     if first { start } else { !start }
 }
 

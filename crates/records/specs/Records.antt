@@ -9,9 +9,9 @@ use Rattle.contexts.specs.{isCount, isNaming}
 use Rattle.protocol.specs.Answers.{refusalNumber}
 use Rattle.protocol.specs.declared.Refusal.{Refusal}
 use Rattle.protocol.specs.declared.Setup.{Setup}
-use Rattle.protocol.specs.declared.Setup.the-variants.{Missing, Chain}
+use Rattle.protocol.specs.declared.Setup.the-variants.{Missing, Chain, Quorum}
 use Rattle.protocol.specs.declared.Step.{Step}
-use Rattle.protocol.specs.declared.Step.the-variants.{Start, BeginRead, BeginWrite, Deliver, Lose, Repeat, Advance, Replace, Tell, Remove, GiveUp, BeginContext, Join, Copy}
+use Rattle.protocol.specs.declared.Step.the-variants.{Start, BeginRead, BeginWrite, Deliver, Lose, Repeat, Advance, Replace, Tell, Remove, GiveUp, BeginContext, Join, Copy, Execute}
 use Rattle.records.specs.declared.Found.{Found}
 use Rattle.records.specs.declared.Next.{Next}
 use Rattle.records.specs.declared.Written.{Written}
@@ -36,7 +36,7 @@ twoAt l i = byteAt l i * 256 + byteAt l (i + 1)
 unfoldable pub fourAt : List ℕ → ℕ → ℕ
 fourAt l i = twoAt l i * 65536 + twoAt l (i + 2)
 
--- ---- the kinds of step: 0 is the start, and 1 to 13 have their tags' numbers
+-- ---- the kinds of step: 0 is the start of a chain, and 1 to 14 have their tags' numbers
 
 -- Req 02: a read of a whole context
 abbrev pub contextKind : ℕ
@@ -46,21 +46,25 @@ contextKind = 11
 abbrev pub giveUpKind : ℕ
 giveUpKind = 10
 
+-- Req 11: the start of a quorum store
+abbrev pub quorumKind : ℕ
+quorumKind = 15
+
 -- stands for no step
 abbrev pub noStep : ℕ
-noStep = 14
+noStep = 16
 
 -- the column 'Tag', read: a tag that is not in it is unknown
 unfoldable pub kindOfTag : ℕ → ℕ
-kindOfTag t = cond (eqb t 32) 0 (cond (leb 1 t) (cond (leb t 13) t noStep) noStep)
+kindOfTag t = cond (eqb t 32) 0 (cond (eqb t 33) quorumKind (cond (leb 1 t) (cond (leb t 14) t noStep) noStep))
 
 -- the column 'Tag', written
 unfoldable pub tagOf : ℕ → ℕ
-tagOf k = cond (leb 1 k) (cond (leb k 13) k 32) 32
+tagOf k = cond (eqb k quorumKind) 33 (cond (leb 1 k) (cond (leb k 14) k 32) 32)
 
--- the column 'Length', as it is written; that of a read of a whole context stands below, and Req 04's two have none. Req 07: 'Tag 10 is written with length 4'
+-- the column 'Length', as it is written; that of a read of a whole context stands below, and Req 04's two and Req 11's tag 14 have none. Req 07: 'Tag 10 is written with length 4'
 abbrev pub lengths : List ℕ
-lengths = 1 ∷ 2 ∷ 6 ∷ 3 ∷ 2 ∷ 2 ∷ 1 ∷ 2 ∷ 1 ∷ 1 ∷ 4 ∷ 0 ∷ 0 ∷ 0 ∷ []
+lengths = 1 ∷ 2 ∷ 6 ∷ 3 ∷ 2 ∷ 2 ∷ 1 ∷ 2 ∷ 1 ∷ 1 ∷ 4 ∷ 0 ∷ 0 ∷ 0 ∷ 0 ∷ 1 ∷ []
 
 unfoldable pub contentLength : ℕ → ℕ
 contentLength k = getD lengths k 0
@@ -81,6 +85,7 @@ isLength k n = cond (eqb k contextKind) (isContextLength n) (cond (isShortGiveUp
 abbrev pub setupKind : Setup → ℕ
 setupKind Missing = noStep
 setupKind (Chain n) = 0
+setupKind (Quorum n) = quorumKind
 
 -- the kind of each step
 abbrev pub kindOf : Step → ℕ
@@ -98,6 +103,7 @@ kindOf (GiveUp operation) = giveUpKind
 kindOf (BeginContext objects) = contextKind
 kindOf Join = 12
 kindOf Copy = 13
+kindOf Execute = 14
 
 -- ---- a step as bytes
 
@@ -115,6 +121,7 @@ objectBytes x = take (2 * x .count) (placeBytes x)
 abbrev pub setupContent : Setup → List ℕ
 setupContent Missing = []
 setupContent (Chain n) = n ∷ []
+setupContent (Quorum n) = n ∷ []
 
 abbrev pub contentOf : Step → List ℕ
 contentOf (Start b) = setupContent b
@@ -131,6 +138,7 @@ contentOf (GiveUp operation) = fourBytes operation
 contentOf (BeginContext x) = objectBytes x
 contentOf Join = []
 contentOf Copy = []
+contentOf Execute = []
 
 -- 'a one-byte tag, a two-byte length'
 unfoldable pub headerOf : ℕ → ℕ → List ℕ
@@ -174,7 +182,8 @@ stepOf k c =
     (cond (eqb k 8) (Tell (byteAt c 0))
     (cond (eqb k 9) (Remove (byteAt c 0))
     (cond (eqb k 10) (GiveUp (operationIn c))
-    (cond (eqb k 11) (BeginContext (objectsIn c)) (cond (eqb k 12) Join (cond (eqb k 13) Copy (Start Missing))))))))))))))
+    (cond (eqb k 11) (BeginContext (objectsIn c))
+    (cond (eqb k 12) Join (cond (eqb k 13) Copy (cond (eqb k 14) Execute (cond (eqb k 15) (Start (Quorum (byteAt c 0))) (Start Missing))))))))))))))))
 
 -- the record of a kind whose tag is at the position; refusal 1: 'wrong length, input ends early'
 unfoldable pub recordOfKind : ℕ → List ℕ → ℕ → Found
@@ -198,7 +207,7 @@ isShortAt l at = isShortGiveUp (kindOfTag (byteAt l at)) (twoAt l (at + 1))
 
 -- the step is a start
 unfoldable pub isStart : Step → Bool
-isStart s = eqb (kindOf s) 0
+isStart s = cond (eqb (kindOf s) 0) true (eqb (kindOf s) quorumKind)
 
 -- 'The first is a start; no other is.'
 unfoldable pub inPlace : Bool → Step → Bool
@@ -219,6 +228,7 @@ nextAt l at = cond (eqb at 0) (nextOf true (recordAt l at)) (cond (leb (length l
 abbrev pub isWritable : Step → Bool
 isWritable (Start Missing) = false
 isWritable (Start (Chain n)) = true
+isWritable (Start (Quorum n)) = true
 isWritable (BeginRead object) = true
 isWritable (BeginWrite object value) = true
 isWritable (Deliver position choice) = true
@@ -232,6 +242,7 @@ isWritable (GiveUp operation) = true
 isWritable (BeginContext x) = isNaming x
 isWritable Join = true
 isWritable Copy = true
+isWritable Execute = true
 
 -- the record has room in the buffer at the position
 unfoldable pub hasRoom : List ℕ → ℕ → Step → Bool
@@ -268,6 +279,7 @@ AllBytes l = (i : ℕ) → byteAt l i < 256
 abbrev pub InRange : Step → Type 0
 InRange (Start Missing) = Unit {0}
 InRange (Start (Chain n)) = n < 256
+InRange (Start (Quorum n)) = n < 256
 InRange (BeginRead object) = object < 65536
 InRange (BeginWrite object value) = (object < 65536) × (value < 4294967296)
 InRange (Deliver position choice) = (position < 65536) × (choice < 256)
@@ -282,3 +294,4 @@ InRange (BeginContext x) =
     (x .first < 65536) × (x .second < 65536) × (x .third < 65536) × (x .fourth < 65536) × (x .fifth < 65536) × (x .sixth < 65536) × (x .seventh < 65536) × (x .eighth < 65536)
 InRange Join = Unit {0}
 InRange Copy = Unit {0}
+InRange Execute = Unit {0}

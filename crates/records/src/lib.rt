@@ -9,6 +9,7 @@ mod writer;
 pub use kinds::CONTEXT_KIND;
 pub use kinds::GIVE_UP_KIND;
 pub use kinds::NO_STEP;
+pub use kinds::QUORUM_KIND;
 pub use kinds::content_length;
 pub use kinds::is_length;
 pub use kinds::is_short_give_up;

@@ -9,6 +9,7 @@ ghost use Rattle.records.specs.Records.{contextKind, contentLength, head
 use crate::Written;
 use crate::kinds::CONTEXT_KIND;
 use crate::kinds::NO_STEP;
+use crate::kinds::QUORUM_KIND;
 use crate::kinds::content_length;
 use crate::kinds::kind_of;
 use crate::kinds::tag_of;
@@ -120,6 +121,7 @@ fn setup_record(b: Setup) -> [u8; LONGEST]
     match b {
         Setup::Missing => header(NO_STEP, 0),
         Setup::Chain(n) => one_byte(0, n),
+        Setup::Quorum(n) => one_byte(QUORUM_KIND, n),
     }
 }
 
@@ -143,6 +145,7 @@ fn record_of(step: Step) -> [u8; LONGEST]
         Step::BeginContext(x) => objects(x),
         Step::Join => header(kind, 0),
         Step::Copy => header(kind, 0),
+        Step::Execute => header(kind, 0),
     }
 }
 

@@ -1,9 +1,11 @@
 // 'What delivery does', of packets to a replica, and of replies.
 ghost use mathlib.Core.Path.{_≡_};
+ghost use mathlib.Core.List.{[], _∷_};
 ghost use Rattle.store.specs.{stampAt};
 ghost use Rattle.replicas.specs.Replicas.{taking};
 ghost use Rattle.joins.specs.{handingOn};
-ghost use Rattle.protocol.specs.Delivery.{answering, stampedWrite, directRead, freshness, normalRead, reply};
+ghost use Rattle.protocol.specs.Reads.{answersRead};
+ghost use Rattle.protocol.specs.Delivery.{answering, chainWrite, leaderWrite, stampedWrite, acknowledgement, directRead, freshness, normalRead, reply};
 use limits::Freshness;
 use limits::HeldFreshness;
 use limits::Number;
@@ -38,15 +40,16 @@ fn take_at_tail(store: &mut [u32; store::CELLS], t: Table, w: Write)
     joins::hand_on(&mut *store, w);
 }
 
-pub fn stamped_write(
+// A write that reaches a replica of a chain.
+fn chain_write(
     store: &mut [u32; store::CELLS],
     held: usize,
     at: usize,
     r: Replica,
     w: Write,
 ) -> Decision
-    ensures { λ d. ⌜ (d ≡ stampedWrite (now (store .entry)) held at r w .decision)
-        × (now (store .exit) ≡ stampedWrite (now (store .entry)) held at r w .store) ⌝ }
+    ensures { λ d. ⌜ (d ≡ chainWrite (now (store .entry)) held at r w .decision)
+        × (now (store .exit) ≡ chainWrite (now (store .entry)) held at r w .store) ⌝ }
 {
     let n = chain::count(store);
     let place = chain::place(store, r);
@@ -68,6 +71,62 @@ pub fn stamped_write(
     decisions::done(answers(at, w))
 }
 
+// Req 11: a write that reaches the leader of a quorum store.
+fn leader_write(store: &mut [u32; store::CELLS], at: usize, w: Write) -> Decision
+    ensures { λ d. ⌜ (d ≡ leaderWrite (now (store .entry)) at w .decision)
+        × (now (store .exit) ≡ leaderWrite (now (store .entry)) at w .store) ⌝ }
+{
+    if quorum::accepts(store, w.stamp) {
+        quorum::log(&mut *store, w);
+        return decisions::drop_packet(at);
+    }
+    decisions::drop_packet(at)
+}
+
+pub fn stamped_write(
+    store: &mut [u32; store::CELLS],
+    held: usize,
+    at: usize,
+    r: Replica,
+    w: Write,
+) -> Decision
+    ensures { λ d. ⌜ (d ≡ stampedWrite (now (store .entry)) held at r w .decision)
+        × (now (store .exit) ≡ stampedWrite (now (store .entry)) held at r w .store) ⌝ }
+{
+    if store::is_quorum(store) {
+        return leader_write(&mut *store, at, w);
+    }
+    chain_write(&mut *store, held, at, r, w)
+}
+
+// Req 11: the leader hears how many entries a follower has logged.
+pub fn acknowledge(store: &mut [u32; store::CELLS], at: usize, q: Replica, k: u32) -> Decision
+    ensures { λ d. ⌜ (d ≡ acknowledgement (now (store .entry)) at q k .decision)
+        × (now (store .exit) ≡ acknowledgement (now (store .entry)) at q k .store) ⌝ }
+{
+    if !store::is_quorum(store) {
+        return decisions::drop_packet(at);
+    }
+    let n = chain::count(store);
+    let place = chain::place(store, q);
+    if n <= place {
+        return decisions::drop_packet(at);
+    }
+    let t = chain::member(store, place);
+    quorum::acknowledge(&mut *store, t, k);
+    decisions::drop_packet(at)
+}
+
+// Whether the replica answers a direct read of one object.
+fn answers_read(store: &[u32; store::CELLS], q: Table, number: Number, t: Stamp, x: Object) -> bool
+    ensures { λ r. ⌜ r ≡ answersRead (now (store .entry)) q number t (x ∷ []) ⌝ }
+{
+    if store::is_quorum(store) {
+        return quorum::answers(store, q, number, t);
+    }
+    replicas::answers(store, q, x, number, t)
+}
+
 pub fn direct_read(
     store: &[u32; store::CELLS],
     at: usize,
@@ -85,7 +144,7 @@ pub fn direct_read(
         return decisions::drop_packet(at);
     }
     let q = chain::member(store, place);
-    if replicas::answers(store, q, x, number, t) {
+    if answers_read(store, q, number, t, x) {
         let v = store::read_value(store, q, x);
         return decisions::pass_on(at, Message::Reply(o, v, 0, NONE as HeldFreshness));
     }

@@ -1,7 +1,7 @@
 // What a replica holds, and which replicas there are.
 ghost use mathlib.Core.Path.{_≡_};
 ghost use Rattle.store.specs.{liveCount};
-ghost use Rattle.replica_values.specs.{tableFor, valueOf, stampHeld, newcomerOf, copiesOf, chainOf};
+ghost use Rattle.replica_values.specs.{tableFor, valueOf, stampHeld, newcomerOf, copiesOf, chainOf, positionsTold, positionsIn};
 use limits::OBJECTS;
 use limits::Replica;
 use limits::Stamp;
@@ -10,6 +10,9 @@ use store::CELLS;
 
 // How many numbers tell the chain.
 pub const CHAIN: usize = 10;
+
+// How many numbers tell the positions of a replica.
+pub const POSITIONS: usize = 3;
 
 // The table that has the replica's value of an object, or 0.
 fn table(store: &[u32; CELLS], replica: Replica, object: u32) -> Table
@@ -71,7 +74,7 @@ fn copies(store: &[u32; CELLS]) -> u8
     0
 }
 
-// The live replicas in chain order, the newcomer and its copies. How many are live.
+// The live replicas in chain order, in a quorum store the leader first, the newcomer and its copies. How many are live.
 pub fn chain(store: &[u32; CELLS], out: &mut [u8; CHAIN]) -> u8
     ensures { λ r. ⌜ (r ≡ liveCount (now (store .entry))) × (now (out .exit) ≡ chainOf (now (store .entry))) ⌝ }
 {
@@ -89,4 +92,26 @@ pub fn chain(store: &[u32; CELLS], out: &mut [u8; CHAIN]) -> u8
     ];
     *out = all;
     chain::count(store) as u8
+}
+
+// Of a live replica of a quorum store: how many entries it has logged, how many it has executed, and how many the leader knows it to have logged. 1, or 0 where there is no such
+// replica, with the lent places as they were.
+pub fn positions(store: &[u32; CELLS], replica: Replica, out: &mut [u32; POSITIONS]) -> u8
+    ensures { λ r. ⌜ (r ≡ positionsTold (now (store .entry)) replica) × (now (out .exit) ≡ positionsIn (now (store .entry)) replica (now (out .entry))) ⌝ }
+{
+    if !store::is_quorum(store) {
+        return 0;
+    }
+    let place = chain::place(store, replica);
+    if chain::count(store) <= place {
+        return 0;
+    }
+    let t = chain::member(store, place);
+    let all = [
+        quorum::logged(store, t),
+        store::applied(store, t),
+        quorum::acknowledged(store, t),
+    ];
+    *out = all;
+    1
 }

@@ -47,27 +47,27 @@ pub entry-from : (f p : ℕ) → 41 ≤ entryCell f p
 unfolding entryCell
 entry-from f p = omega arith
 
-pub entry-below : (f p : ℕ) → f < 3 → entryCell f p < 233
+pub entry-below : (f p : ℕ) → f < 3 → entryCell f p < 425
 unfolding entryCell
 entry-below f p h = omega arith
 
-pub entry-stamp-from : (p : ℕ) → 233 ≤ entryStampCell p
+pub entry-stamp-from : (p : ℕ) → 425 ≤ entryStampCell p
 unfolding entryStampCell
 entry-stamp-from p = omega arith
 
-pub entry-stamp-below : (p : ℕ) → entryStampCell p < 360
+pub entry-stamp-below : (p : ℕ) → entryStampCell p < 680
 unfolding entryStampCell
 entry-stamp-below p = omega arith
 
-pub value-from : (r o : ℕ) → 361 ≤ valueCell (rowOf r) o
+pub value-from : (r o : ℕ) → 681 ≤ valueCell (rowOf r) o
 unfolding valueCell
 value-from r o = omega arith
 
-pub value-below : (r o : ℕ) → valueCell (rowOf r) o < 8553
+pub value-below : (r o : ℕ) → valueCell (rowOf r) o < 8873
 unfolding valueCell
 value-below r o = omega (arith, row-below r)
 
-pub stamp-is : (r o : ℕ) → stampCell (rowOf r) o ≡ 2 * valueCell (rowOf r) o + 7831
+pub stamp-is : (r o : ℕ) → stampCell (rowOf r) o ≡ 2 * valueCell (rowOf r) o + 7511
 unfolding stampCell valueCell
 stamp-is r o = omega arith
 
@@ -114,7 +114,7 @@ entry-same s t p e g =
     }
 
 -- where all cells from the first entry to the last entry's stamp are the same
-pub entries-kept : (s t : List ℕ) (p : ℕ) → ((j : ℕ) → 41 ≤ j → j < 361 → getD s j 0 ≡ getD t j 0) → entryAt s p ≡ entryAt t p
+pub entries-kept : (s t : List ℕ) (p : ℕ) → ((j : ℕ) → 41 ≤ j → j < 681 → getD s j 0 ≡ getD t j 0) → entryAt s p ≡ entryAt t p
 entries-kept s t p f =
     entry-same s t p (λ k h. f (entryCell k p) (entry-from k p) (omega (arith, entry-below k p h)))
     (λ j a b. f j (omega (arith, a, entry-stamp-from p)) (omega (arith, b, entry-stamp-below p)))
@@ -138,7 +138,7 @@ unfolding raised
 kept-raised s r h n i b c d = getD-set-other (setStamp s (highestCell (rowOf r)) h) (appliedCell (rowOf r)) i n 0 d ∙ cell-beside s (highestCell (rowOf r)) h i b c
 
 -- a table that takes a write changes nothing below the tables and nothing behind them
-pub low-tabled : (s : List ℕ) (r : ℕ) (w : Write) (i : ℕ) → i < 361 → getD (tabled s r w) i 0 ≡ getD s i 0
+pub low-tabled : (s : List ℕ) (r : ℕ) (w : Write) (i : ℕ) → i < 681 → getD (tabled s r w) i 0 ≡ getD s i 0
 low-tabled s r w i h =
     kept-tabled s r w i (λ e. omega (arith, e, h, value-from r (w .object))) (λ e. omega (arith, e, h, stamp-is r (w .object))) (λ e. omega (arith, e, h, stamp-is r (w .object)))
 
@@ -325,7 +325,7 @@ module _ (s : List ℕ) (p : ℕ) (w : Write) where
   low-logged i h = kept-logged i (λ f b e. omega (arith, e, h, entry-from f p)) (λ e. omega (arith, e, h, entry-stamp-from p)) (λ e. omega (arith, e, h, entry-stamp-from p))
 
   -- from the tables on
-  high-logged : (i : ℕ) → 361 ≤ i → getD (logged s p w) i 0 ≡ getD s i 0
+  high-logged : (i : ℕ) → 681 ≤ i → getD (logged s p w) i 0 ≡ getD s i 0
   high-logged i h = kept-logged i (λ f b e. omega (arith, e, h, entry-below f p b)) (λ e. omega (arith, e, h, entry-stamp-below p)) (λ e. omega (arith, e, h, entry-stamp-below p))
 
   pub order-logged : (i : ℕ) → i < 9 → getD (logged s p w) i 0 ≡ getD s i 0
@@ -357,20 +357,20 @@ module _ (s : List ℕ) (p : ℕ) (w : Write) where
   unfolding stampAt
   stamp-logged r o = stamp-over (logged s p w) s (stampCell (rowOf r) o) (λ j a b. high-logged j (omega (arith, a, stamp-is r o)))
 
-  field-same : (f g q : ℕ) → entryCell f q ≡ entryCell g p → (f ≡ g) × (p % limits.linked ≡ q % limits.linked)
+  field-same : (f g q : ℕ) → entryCell f q ≡ entryCell g p → (f ≡ g) × (p % limits.kept ≡ q % limits.kept)
   unfolding entryCell
   field-same f g q e = (omega arith, omega arith)
 
-  stamp-field-same : (q : ℕ) → (entryStampCell q ≡ entryStampCell p → ⊥) → p % limits.linked ≡ q % limits.linked → ⊥
+  stamp-field-same : (q : ℕ) → (entryStampCell q ≡ entryStampCell p → ⊥) → p % limits.kept ≡ q % limits.kept → ⊥
   unfolding entryStampCell
   stamp-field-same q d e = d (omega (arith, e))
 
   -- two positions that differ have different cells for their stamps, and none of one is the other's second
-  stamps-apart : (q : ℕ) → (p % limits.linked ≡ q % limits.linked → ⊥) → (entryStampCell q ≡ entryStampCell p → ⊥) × (entryStampCell q ≡ entryStampCell p + 1 → ⊥) × (entryStampCell q + 1 ≡ entryStampCell p → ⊥)
+  stamps-apart : (q : ℕ) → (p % limits.kept ≡ q % limits.kept → ⊥) → (entryStampCell q ≡ entryStampCell p → ⊥) × (entryStampCell q ≡ entryStampCell p + 1 → ⊥) × (entryStampCell q + 1 ≡ entryStampCell p → ⊥)
   unfolding entryStampCell
   stamps-apart q d = (λ e. d (omega (arith, e)), λ e. omega (arith, e), λ e. omega (arith, e))
 
-  pub entry-logged-other : (q : ℕ) → (p % limits.linked ≡ q % limits.linked → ⊥) → entryAt (logged s p w) q ≡ entryAt s q
+  pub entry-logged-other : (q : ℕ) → (p % limits.kept ≡ q % limits.kept → ⊥) → entryAt (logged s p w) q ≡ entryAt s q
   unfolding entryAt
   entry-logged-other q d =
       let a = stamps-apart q d in
@@ -424,7 +424,7 @@ unfolding logged
 sized-logged s p w h = length-stamp (three s p w) (entryStampCell p) (w .stamp) ∙ long s p w h
 
 -- positions that the links hold at once do not meet in a cell
-pub positions-apart : (p q : ℕ) → p < q → q < p + limits.linked → p % limits.linked ≡ q % limits.linked → ⊥
+pub positions-apart : (p q : ℕ) → p < q → q < p + limits.kept → p % limits.kept ≡ q % limits.kept → ⊥
 positions-apart p q a b e = omega arith
 
 -- ---- a permit

@@ -161,7 +161,7 @@ module _ (n : ℕ) where
   behind-live i h d = getD-set-other counted lastNumberCell i n 0 d ∙ getD-set-other (numbered emptyCells 8) 0 i n 0 (λ e. omega arith)
 
   -- a cell that is in neither the order nor the permits
-  blank-cell : (i : ℕ) → 9 ≤ i → (i ≡ lastNumberCell → ⊥) → ((j : ℕ) → j < 8 → i ≡ permitCell j → ⊥) → getD (emptyStore n) i 0 ≡ 0
+  pub blank-cell : (i : ℕ) → 9 ≤ i → (i ≡ lastNumberCell → ⊥) → ((j : ℕ) → j < 8 → i ≡ permitCell j → ⊥) → getD (emptyStore n) i 0 ≡ 0
   blank-cell i h d b =
       behind-live i (omega arith) d ∙ numbered-other emptyCells sized-cells 8 i (λ j c e. omega arith) b ∙ empty-cell i
 

@@ -38,7 +38,7 @@ pub fn accepts(cells: &[u32; CELLS], r: Table, stamp: Stamp) -> bool
     store::applied(cells, r) < LAST_POSITION
 }
 
-fn next_position(p: Position) -> Position
+pub fn next_position(p: Position) -> Position
     ensures { λ x. ⌜ x ≡ nextPosition p ⌝ }
 {
     if p < LAST_POSITION {

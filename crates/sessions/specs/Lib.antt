@@ -1,4 +1,5 @@
 -- A session of the exported library: the answer of its last start or step, in numbers, and the step that it is handed.
+pub mod StartBytes
 use mathlib.Core.Bool.{cond}
 use mathlib.Core.List.{List}
 use Prim.Native.Nat.{ℕ}

@@ -1,8 +1,10 @@
 // A session after a start or a step.
 ghost use mathlib.Core.Path.{_≡_};
+ghost use Prim.Native.Nat.{_≤_};
 ghost use Rattle.contexts.specs.{context};
 ghost use Rattle.protocol.specs.Steps.{startSwitch, startStore, startOpens};
-ghost use Rattle.sessions.specs.{refusalIn, operationIn, noValues, valuesIn, freshnessIn, sessionStarted, wholeStep, askedBy, startAsked, marksAfter, sessionAfter};
+ghost use Rattle.sessions.specs.StartBytes.{startLength, setupFrom};
+ghost use Rattle.sessions.specs.{refusalIn, noValues, sessionStarted, wholeStep, askedBy, startAsked, marksAfter, sessionAfter};
 use contexts::Context;
 use limits::Freshness;
 use protocol::Answer;
@@ -37,17 +39,6 @@ fn refusal_in(answer: Answer) -> u8
     }
 }
 
-fn operation_in(answer: Answer) -> u32
-    ensures { λ r. ⌜ r ≡ operationIn answer ⌝ }
-{
-    match answer {
-        Answer::Done => 0,
-        Answer::Finished(o, v, f) => o,
-        Answer::FinishedContext(o, v) => o,
-        Answer::Refused(r) => 0,
-    }
-}
-
 fn no_values() -> Context
     ensures { λ r. ⌜ r ≡ noValues ⌝ }
 {
@@ -77,28 +68,6 @@ fn one_value(v: u32) -> Context
         sixth: 0,
         seventh: 0,
         eighth: 0,
-    }
-}
-
-fn values_in(answer: Answer) -> Context
-    ensures { λ r. ⌜ r ≡ valuesIn answer ⌝ }
-{
-    match answer {
-        Answer::Done => no_values(),
-        Answer::Finished(o, v, f) => one_value(v),
-        Answer::FinishedContext(o, v) => v,
-        Answer::Refused(r) => no_values(),
-    }
-}
-
-fn freshness_in(answer: Answer) -> Freshness
-    ensures { λ r. ⌜ r ≡ freshnessIn answer ⌝ }
-{
-    match answer {
-        Answer::Done => NONE,
-        Answer::Finished(o, v, f) => f,
-        Answer::FinishedContext(o, v) => NONE,
-        Answer::Refused(r) => NONE,
     }
 }
 
@@ -160,23 +129,49 @@ pub fn asked(bytes: &[u8]) -> Step
     whole_step(reader::record_at(bytes, 0), bytes.len())
 }
 
+// How many bytes the content of a start with this tag has, 0 for a tag of no start.
+fn start_length(tag: u8) -> u8
+    ensures { λ r. ⌜ (r ≡ startLength tag) × (r ≤ 1) ⌝ }
+{
+    match tag {
+        32 => 1,
+        33 => 1,
+        _ => 0,
+    }
+}
+
+// What the start with this tag sets up.
+fn setup_from(tag: u8, n: u8) -> Setup
+    ensures { λ r. ⌜ r ≡ setupFrom tag n ⌝ }
+{
+    match tag {
+        32 => Setup::Chain(n),
+        33 => Setup::Quorum(n),
+        _ => Setup::Missing,
+    }
+}
+
 // What the start of a record sets up. It does not call `asked`, which with one caller is compiled into the step.
 fn start_asked(bytes: &[u8]) -> Setup
     ensures { λ r. ⌜ r ≡ startAsked (now (bytes .entry)) ⌝ }
 {
-    if bytes.len() != 4 {
+    if bytes.len() < 4 {
         return Setup::Missing;
     }
-    if bytes[0] != 32 {
+    let size = start_length(bytes[0]);
+    if size == 0 {
         return Setup::Missing;
     }
     if bytes[1] != 0 {
         return Setup::Missing;
     }
-    if bytes[2] != 1 {
+    if bytes[2] != size {
         return Setup::Missing;
     }
-    Setup::Chain(bytes[3])
+    if bytes.len() != 3 + (size as usize) {
+        return Setup::Missing;
+    }
+    setup_from(bytes[0], bytes[3])
 }
 
 // How many marks the session has after a step: a refused one leaves them as they were.
@@ -186,22 +181,40 @@ fn marks_after(before: u32, refusal: u8, marks: u32) -> u32
     if refusal == 0 { marks } else { before }
 }
 
-// The session after a step; `marks` are those of the session before.
-pub fn noted(marks: u32, done: Stepped) -> Session
-    ensures { λ r. ⌜ r ≡ sessionAfter marks done ⌝ }
+// A session of these numbers.
+fn session_of(
+    refusal: u8,
+    operation: u32,
+    values: Context,
+    freshness: Freshness,
+    marks: u32,
+    waiting: usize,
+) -> Session
+    ensures { λ r. ⌜ r ≡ record { refusal = refusal; operation = operation; values = values; freshness = freshness; marks = marks; waiting = waiting } ⌝ }
 {
-    let answer = done.answer;
-    let refusal = refusal_in(answer);
-    let marks = marks_after(marks, refusal, done.marks);
-    let operation = operation_in(answer);
-    let values = values_in(answer);
-    let freshness = freshness_in(answer);
     Session {
         refusal,
         operation,
         values,
         freshness,
         marks,
-        waiting: done.count,
+        waiting,
+    }
+}
+
+// The session after a step; `marks` are those of the session before. One match writes all its fields.
+pub fn noted(marks: u32, done: Stepped) -> Session
+    ensures { λ r. ⌜ r ≡ sessionAfter marks done ⌝ }
+{
+    let answer = done.answer;
+    match answer {
+        Answer::Done => session_of(0, 0, no_values(), NONE, done.marks, done.count),
+        Answer::Finished(o, v, f) => session_of(0, o, one_value(v), f, done.marks, done.count),
+        Answer::FinishedContext(o, v) => session_of(0, o, v, NONE, done.marks, done.count),
+        Answer::Refused(r) => {
+            let refusal = answers::refusal_number(r);
+            let left = marks_after(marks, refusal, done.marks);
+            session_of(refusal, 0, no_values(), NONE, left, done.count)
+        }
     }
 }

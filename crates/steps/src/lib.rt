@@ -1,9 +1,12 @@
-// Every step but the delivery of a packet and the beginning of an operation: crates/packet_delivery and crates/begins have those.
+// Every step but the delivery of a packet and the beginning of an operation: crates/packet_delivery and crates/begins have those. src/quorum_steps.rt has what is done in a quorum store alone.
 ghost use mathlib.Core.Path.{_≡_};
 ghost use Prim.Native.Nat.{_<_};
 ghost use Rattle.replicas.specs.Replicas.{applying};
 ghost use Rattle.joins.specs.{handingOn};
-ghost use Rattle.protocol.specs.Steps.{lost, copied, repeated, sending, advancing, replacing, telling, removing, joining, copyingOn, givingUp};
+ghost use Rattle.protocol.specs.Steps.{lost, copied, repeated, sending, chainAdvancing, advancing, replacing, telling, removing, joining, copyingOn, givingUp};
+
+mod quorum_steps;
+
 use limits::CONTEXTS;
 use limits::Number;
 use limits::Operation;
@@ -11,6 +14,7 @@ use limits::Replica;
 use limits::Table;
 use protocol::Decision;
 use protocol::Refusal;
+pub use quorum_steps::execute;
 use store::Write;
 use switch::cells;
 use waiting::Edit;
@@ -56,7 +60,7 @@ pub fn repeat(opens: &mut [u32; operations::CELLS], held: usize, p: Packet, at: 
     copy(&mut *opens, p)
 }
 
-// The reply and the completion that the tail sends for a write.
+// The reply and the completion that the tail, or the leader, sends for a write.
 fn send(w: Write) -> Edit
     ensures { λ r. ⌜ r ≡ sending w ⌝ }
 {
@@ -71,10 +75,10 @@ fn apply_at_tail(store: &mut [u32; store::CELLS], t: Table, w: Write)
     joins::hand_on(&mut *store, w);
 }
 
-// A replica applies the oldest write of its incoming link.
-pub fn advance(store: &mut [u32; store::CELLS], held: usize, r: Replica) -> Decision
-    ensures { λ d. ⌜ (d ≡ advancing (now (store .entry)) held r .decision)
-        × (now (store .exit) ≡ advancing (now (store .entry)) held r .store) ⌝ }
+// A replica of a chain applies the oldest write of its incoming link.
+fn advance_in_chain(store: &mut [u32; store::CELLS], held: usize, r: Replica) -> Decision
+    ensures { λ d. ⌜ (d ≡ chainAdvancing (now (store .entry)) held r .decision)
+        × (now (store .exit) ≡ chainAdvancing (now (store .entry)) held r .store) ⌝ }
 {
     let n = chain::count(store);
     let place = chain::place(store, r);
@@ -95,6 +99,17 @@ pub fn advance(store: &mut [u32; store::CELLS], held: usize, r: Replica) -> Deci
     }
     apply_at_tail(&mut *store, t, w);
     decisions::done(send(w))
+}
+
+// A replica takes the oldest item of its incoming link.
+pub fn advance(store: &mut [u32; store::CELLS], held: usize, r: Replica) -> Decision
+    ensures { λ d. ⌜ (d ≡ advancing (now (store .entry)) held r .decision)
+        × (now (store .exit) ≡ advancing (now (store .entry)) held r .store) ⌝ }
+{
+    if store::is_quorum(store) {
+        return quorum_steps::advance_follower(&mut *store, held, r);
+    }
+    advance_in_chain(&mut *store, held, r)
 }
 
 pub fn replace(switch: &mut [u32; switch::CELLS], number: Number) -> Decision
@@ -128,6 +143,9 @@ pub fn remove(store: &mut [u32; store::CELLS], r: Replica) -> Decision
     ensures { λ d. ⌜ (d ≡ removing (now (store .entry)) r .decision)
         × (now (store .exit) ≡ removing (now (store .entry)) r .store) ⌝ }
 {
+    if store::is_quorum(store) {
+        return decisions::refuse(Refusal::WrongStore);
+    }
     let n = chain::count(store);
     if n <= chain::place(store, r) {
         return decisions::refuse(Refusal::NotLive);
@@ -153,6 +171,9 @@ pub fn give_up(opens: &mut [u32; operations::CELLS], o: Operation) -> Decision
 pub fn join(store: &mut [u32; store::CELLS]) -> Decision
     ensures { λ d. ⌜ (d ≡ joining (now (store .entry)) .decision) × (now (store .exit) ≡ joining (now (store .entry)) .store) ⌝ }
 {
+    if store::is_quorum(store) {
+        return decisions::refuse(Refusal::WrongStore);
+    }
     if joins::is_full(store) {
         return decisions::refuse(Refusal::ChainFull);
     }
@@ -167,6 +188,9 @@ pub fn join(store: &mut [u32; store::CELLS]) -> Decision
 pub fn copy_on(store: &mut [u32; store::CELLS]) -> Decision
     ensures { λ d. ⌜ (d ≡ copyingOn (now (store .entry)) .decision) × (now (store .exit) ≡ copyingOn (now (store .entry)) .store) ⌝ }
 {
+    if store::is_quorum(store) {
+        return decisions::refuse(Refusal::WrongStore);
+    }
     if !joins::is_joining(store) {
         return decisions::refuse(Refusal::NoJoin);
     }

@@ -1,7 +1,9 @@
 -- The store that a caller lends: the chain's order, what each replica keeps, and the writes that stand in the links. Where each thing lies, and what is
 -- read there.
+use mathlib.Core.Bool.{Bool}
 use mathlib.Core.List.{List}
 use Prim.Native.Nat.{ℕ, _+_, _*_, _/_, _%_, min}
+use lib.Dec.{eqb}
 use lib.ListN.{getD, set}
 use Rattle.limits.specs as limits
 use Rattle.lists.specs.{listOf}
@@ -26,30 +28,44 @@ permitCell row = 25 + row
 abbrev pub appliedCell : ℕ → ℕ
 appliedCell row = 33 + row
 
--- the write at a position of the log: the links hold at most 64 positions in a row, so the remainder tells them apart
+-- the write at a position of the log: at most 128 positions in a row are needed at once, so the remainder tells them apart
 unfoldable pub entryCell : ℕ → ℕ → ℕ
-entryCell field position = 41 + field * limits.linked + position % limits.linked
+entryCell field position = 41 + field * limits.kept + position % limits.kept
 
 unfoldable pub entryStampCell : ℕ → ℕ
-entryStampCell position = 233 + 2 * (position % limits.linked)
+entryStampCell position = 425 + 2 * (position % limits.kept)
 
 -- a row of 1,024 values for each replica, then as many rows of stamps
 unfoldable pub valueCell : ℕ → ℕ → ℕ
-valueCell row o = 361 + (row * limits.objects + o % limits.objects)
+valueCell row o = 681 + (row * limits.objects + o % limits.objects)
 
 unfoldable pub stampCell : ℕ → ℕ → ℕ
-stampCell row o = 8553 + 2 * (row * limits.objects + o % limits.objects)
+stampCell row o = 8873 + 2 * (row * limits.objects + o % limits.objects)
 
 -- Req 04: the last replica number given; and one more than the copies made while a replica joins, 0 while none does
 abbrev pub lastNumberCell : ℕ
-lastNumberCell = 24937
+lastNumberCell = 25257
 
 abbrev pub joinCell : ℕ
-joinCell = 24938
+joinCell = 25258
+
+-- Req 11: 0 for a chain, 1 for a quorum store
+abbrev pub kindCell : ℕ
+kindCell = 25259
+
+-- how many entries each replica has logged, how many of them it has acknowledged, and the kinds of the last 64 items that the leader sent
+abbrev pub loggedCell : ℕ → ℕ
+loggedCell row = 25260 + row
+
+abbrev pub acknowledgedCell : ℕ → ℕ
+acknowledgedCell row = 25268 + row
+
+unfoldable pub itemCell : ℕ → ℕ
+itemCell p = 25276 + p % limits.linked
 
 -- shut, so that no check counts to it
 unfoldable pub storeCells : ℕ
-storeCells = 24939
+storeCells = 25340
 
 -- ---- what is read
 
@@ -107,6 +123,10 @@ valueAt s r o = getD s (valueCell (rowOf r) o) 0
 
 unfoldable pub stampAt : List ℕ → ℕ → ℕ → ℕ
 stampAt s r o = stampIn s (stampCell (rowOf r) o)
+
+-- Req 11: whether it is a quorum store, a leader with followers, and no chain
+unfoldable pub isQuorum : List ℕ → Bool
+isQuorum s = eqb (getD s kindCell 0) 1
 
 -- ---- what is written
 

@@ -2,8 +2,8 @@
 ghost use mathlib.Core.Path.{_≡_};
 ghost use Prim.Native.Nat.{_<_};
 ghost use Rattle.stamp.specs.Stamps.{stampIn, setStamp};
-ghost use Rattle.store.specs.{lastNumberCell, rowOf, entryCell, entryStampCell, valueCell, stampCell, highestOf, permittedBy, appliedBy, entryAt, valueAt, stampAt, logged, tabled, raised};
-use limits::LINKED;
+ghost use Rattle.store.specs.{lastNumberCell, rowOf, entryCell, entryStampCell, valueCell, stampCell, highestOf, permittedBy, appliedBy, entryAt, valueAt, stampAt, logged, tabled, raised, isQuorum};
+use limits::KEPT;
 use limits::OBJECTS;
 use limits::Object;
 use limits::Operation;
@@ -25,17 +25,26 @@ pub const APPLIED: usize = 33;
 
 pub const ENTRIES: usize = 41;
 
-pub const ENTRY_STAMPS: usize = 233;
+pub const ENTRY_STAMPS: usize = 425;
 
-pub const VALUES: usize = 361;
+pub const VALUES: usize = 681;
 
-pub const STAMPS: usize = 8553;
+pub const STAMPS: usize = 8873;
 
-pub const LAST_NUMBER: usize = 24937;
+pub const LAST_NUMBER: usize = 25257;
 
-pub const JOIN: usize = 24938;
+pub const JOIN: usize = 25258;
 
-pub const CELLS: usize = 24939;
+// Req 11: the kind of store, 0 for a chain and 1 for a quorum store; how many entries each replica has logged and acknowledged; the kinds of the last items sent.
+pub const KIND: usize = 25259;
+
+pub const LOGGED: usize = 25260;
+
+pub const ACKNOWLEDGED: usize = 25268;
+
+pub const ITEMS: usize = 25276;
+
+pub const CELLS: usize = 25340;
 
 // A write of the log, with the stamp that the switch gave it.
 pub struct Write {
@@ -52,28 +61,35 @@ pub fn row(r: Table) -> usize
 }
 
 fn value_cell(r: Table, o: Object) -> usize
-    ensures { λ x. ⌜ (x ≡ valueCell (rowOf r) o) × (x < 8553) ⌝ }
+    ensures { λ x. ⌜ (x ≡ valueCell (rowOf r) o) × (x < 8873) ⌝ }
 {
     VALUES + (row(r) * OBJECTS + (o % 1024) as usize)
 }
 
 fn stamp_cell(r: Table, o: Object) -> usize
-    ensures { λ x. ⌜ (x ≡ stampCell (rowOf r) o) × (x < 24936) ⌝ }
+    ensures { λ x. ⌜ (x ≡ stampCell (rowOf r) o) × (x < 25256) ⌝ }
 {
     STAMPS + 2 * (row(r) * OBJECTS + (o % 1024) as usize)
 }
 
 fn entry_cell(field: usize, p: Position) -> usize
     requires { ⌜ field < 3 ⌝ }
-    ensures { λ x. ⌜ (x ≡ entryCell field p) × (x < 233) ⌝ }
+    ensures { λ x. ⌜ (x ≡ entryCell field p) × (x < 425) ⌝ }
 {
-    ENTRIES + field * LINKED + (p % 64) as usize
+    ENTRIES + field * KEPT + (p % 128) as usize
 }
 
 fn entry_stamp_cell(p: Position) -> usize
-    ensures { λ x. ⌜ (x ≡ entryStampCell p) × (x < 360) ⌝ }
+    ensures { λ x. ⌜ (x ≡ entryStampCell p) × (x < 680) ⌝ }
 {
-    ENTRY_STAMPS + 2 * (p % 64) as usize
+    ENTRY_STAMPS + 2 * (p % 128) as usize
+}
+
+// Whether it is a quorum store.
+pub fn is_quorum(cells: &[u32; CELLS]) -> bool
+    ensures { λ x. ⌜ x ≡ isQuorum (now (cells .entry)) ⌝ }
+{
+    cells[KIND] == 1
 }
 
 // ---- stamps, in two cells each

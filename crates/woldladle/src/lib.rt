@@ -3,7 +3,7 @@ ghost use mathlib.Core.Path.{_≡_};
 ghost use Rattle.session_lines.specs.{lineFor, putBytes};
 ghost use Rattle.numbered_records.specs.{recordRefusal, recordBuffer, contextRefusal, contextBuffer, recordSize};
 ghost use Rattle.store.specs.{liveCount};
-ghost use Rattle.replica_values.specs.{valueOf, stampHeld, chainOf};
+ghost use Rattle.replica_values.specs.{valueOf, stampHeld, chainOf, positionsTold, positionsIn};
 ghost use Rattle.lines.specs.Text.{putIn};
 ghost use Rattle.waiting.specs.Waiting.{waitingList};
 ghost use Rattle.protocol.specs.Steps.{machine, after, steppedBy, startSwitch, startStore, startOpens};
@@ -108,7 +108,7 @@ pub extern "C" fn woldladle_record_length(tag: u8) -> u16
     numbered_records::record_length(tag)
 }
 
-// The value of an object at a live or joining replica: 0 where there is no such replica or object, or no copy of it yet.
+// The value of an object at a live or joining replica, in a quorum store by what the replica has executed: 0 where there is no such replica or object, or no copy of it yet.
 #[no_mangle]
 pub extern "C" fn woldladle_value(store: &[u32; store::CELLS], replica: u8, object: u32) -> u32
     ensures { λ r. ⌜ r ≡ valueOf (now (store .entry)) replica object ⌝ }
@@ -124,10 +124,23 @@ pub extern "C" fn woldladle_stamp(store: &[u32; store::CELLS], replica: u8, obje
     replica_values::stamp(store, replica, object)
 }
 
-// The live replicas in chain order, 0 behind the last, then the number of the replica that joins and the copies that it has, or 0. How many are live.
+// The live replicas in chain order, in a quorum store the leader first, 0 behind the last, then the number of the replica that joins and the copies that it has, or 0. How many are live.
 #[no_mangle]
 pub extern "C" fn woldladle_chain(store: &[u32; store::CELLS], out: &mut [u8; 10]) -> u8
     ensures { λ r. ⌜ (r ≡ liveCount (now (store .entry))) × (now (out .exit) ≡ chainOf (now (store .entry))) ⌝ }
 {
     replica_values::chain(store, &mut *out)
+}
+
+// Of a live replica of a quorum store: how many entries of the leader's log it has logged, how many it has executed, and how many the leader knows it to have logged. 1, or 0 where the store is
+// no quorum store or has no such replica, with the lent places as they were.
+#[no_mangle]
+pub extern "C" fn woldladle_positions(
+    store: &[u32; store::CELLS],
+    replica: u8,
+    out: &mut [u32; 3],
+) -> u8
+    ensures { λ r. ⌜ (r ≡ positionsTold (now (store .entry)) replica) × (now (out .exit) ≡ positionsIn (now (store .entry)) replica (now (out .entry))) ⌝ }
+{
+    replica_values::positions(store, replica, &mut *out)
 }

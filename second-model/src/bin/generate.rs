@@ -9,7 +9,7 @@ fn main() -> io::Result<ExitCode> {
     let arguments: Vec<String> = std::env::args().skip(1).collect();
     if arguments == ["--list"] {
         for (name, about) in KINDS {
-            println!("{name:<15} {about}");
+            println!("{name:<20} {about}");
         }
         return Ok(ExitCode::SUCCESS);
     }

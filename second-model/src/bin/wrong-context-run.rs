@@ -1,5 +1,5 @@
 //! A run program that is wrong on purpose, to show that `compare` looks at reads
-//! of several objects: a replica answers such a direct read if the first
+//! of several objects: a replica of a chain answers such a direct read if the first
 //! object's stamp is not above the one carried, whatever the others' are.
 
 use second_model::model::{Age, Answer, Few, Held, Model, Packet, Step, Way};
@@ -9,7 +9,7 @@ use std::io::{self, Read, Write};
 /// A step with the fault put in.
 fn step(model: &mut Model, step: Step) -> Answer {
     let wrong = match step {
-        Step::Deliver { position, .. } => wrong_reply(model, position),
+        Step::Deliver { position, .. } if !model.is_quorum() => wrong_reply(model, position),
         _ => None,
     };
     let answer = model.step(step);

@@ -441,7 +441,7 @@ copy-before-the-start: copy; start 2 => 1 no 1
 
 length-tested-before-the-refusals-of-a-join: start 8; bytes 12 0 1 0 => 2 no 1
 
-tag-14-is-unknown: start 2; bytes 14 0 0 => 2 no 1
+tag-14-is-unknown: start 2; bytes 14 0 0 => 2 no 23
 
 refused-copies-up-to-65536-bytes: start 1; 21844 * copy => 21845 no 19
 ";

@@ -39,11 +39,9 @@ fn slow(packet: &Packet) -> bool {
 
 impl Author {
     pub fn new(mood: Mood, random: Random) -> Self {
-        let n = mood.replicas.clamp(1, REPLICAS);
-        let model = Model::start(n).expect("n from 1 to 8");
+        let model = Model::start(mood.sound_start()).expect("a sound start");
         let mut bytes = Vec::new();
-        let replicas = mood.replicas;
-        append(Record::Start { replicas }, &mut bytes);
+        append(Record::Start(mood.start()), &mut bytes);
         Author {
             mood,
             random,
@@ -52,7 +50,8 @@ impl Author {
         }
     }
 
-    /// One write all the way through the chain, so that direct reads are on.
+    /// One write all the way through the chain, or through a majority, so that
+    /// direct reads are on.
     fn open_with_a_write(&mut self) {
         let first = self.act(WRITE);
         let deliver = Step::Deliver {
@@ -60,10 +59,19 @@ impl Author {
             choice: 0,
         };
         let others: Vec<u8> = self.model.live().skip(1).collect();
+        let heard = match self.model.is_quorum() {
+            true => vec![deliver; others.len()],
+            false => vec![],
+        };
+        let execute = self.model.is_quorum().then_some(Step::Execute);
         let advances = others.into_iter().map(|replica| Step::Advance { replica });
         let start = [first, deliver, deliver];
-        let steps = start.into_iter().chain(advances).chain([deliver, deliver]);
-        for step in steps {
+        let applied = start
+            .into_iter()
+            .chain(advances)
+            .chain(heard)
+            .chain(execute);
+        for step in applied.chain([deliver, deliver]) {
             self.put(step);
             let _ = self.model.step(step);
         }
@@ -95,7 +103,8 @@ impl Author {
 
     /// The file, of exactly this length, cut in a record only if it must be.
     pub fn write(mut self, length: usize) -> Vec<u8> {
-        if self.mood.mischief && length > 100 {
+        let least = 100 * (1 + usize::from(self.model.is_quorum()));
+        if self.mood.mischief && length > least {
             self.open_with_a_write();
         }
         while self.bytes.len() < length {
@@ -146,12 +155,14 @@ impl Author {
         self.act(action)
     }
 
-    /// The actions that a wild step may take: reads of contexts and joins only
-    /// where the mood knows them.
+    /// The actions that a wild step may take: reads of contexts, joins and a
+    /// leader's step only where the mood knows them.
     fn known_actions(&self) -> usize {
-        match (self.mood.weights[CONTEXT], self.mood.weights[JOIN]) {
-            (0, 0) => CONTEXT,
-            (_, 0) => JOIN,
+        let weights = &self.mood.weights;
+        match (weights[CONTEXT], weights[JOIN], weights[EXECUTE]) {
+            (0, 0, 0) => CONTEXT,
+            (_, 0, 0) => JOIN,
+            (_, _, 0) => EXECUTE,
             _ => ACTIONS,
         }
     }
@@ -183,11 +194,27 @@ impl Author {
             weights[WRITE] /= 8;
             weights[CONTEXT] /= 8;
         }
+        if model.is_quorum() && model.unexecuted() < mood.unexecuted {
+            weights[EXECUTE] /= 32;
+        }
+        if model.is_quorum() && self.completions_behind() {
+            weights[REPLACE] *= 10;
+        }
         let middle = mood.mischief && self.laden_middle().is_some();
         if middle || self.head_gone_round().is_some() {
             weights[REMOVE] *= 10;
         }
         self.without_idle(weights)
+    }
+
+    /// Do several completions of the present switch wait?
+    fn completions_behind(&self) -> bool {
+        let now = self.model.switch_number();
+        let own = |p: &&Packet| match p {
+            Packet::Completion { stamp, .. } => stamp.switch() == now,
+            _ => false,
+        };
+        self.model.packets().iter().filter(own).count() > 1
     }
 
     /// Some weights without the actions that would now be refused or idle.
@@ -226,6 +253,9 @@ impl Author {
         if !joining {
             weights[COPY] /= 100;
         }
+        if model.is_quorum() && !model.may_execute() {
+            weights[EXECUTE] /= 50;
+        }
         weights
     }
 
@@ -238,7 +268,7 @@ impl Author {
             WRITE => self.write_step(),
             DELIVER => Step::Deliver {
                 position: self.position(),
-                choice: self.random.draw() as u8,
+                choice: self.choice(),
             },
             LOSE => Step::Lose {
                 position: self.losable(),
@@ -259,6 +289,7 @@ impl Author {
             },
             JOIN => Step::Join,
             COPY => Step::Copy,
+            EXECUTE => Step::Execute,
             _ => Step::GiveUp {
                 operation: self.open_operation(),
             },
@@ -329,6 +360,19 @@ impl Author {
         Step::Write { object, value }
     }
 
+    /// Any choice; over a quorum store a mischievous mood most often looks for a
+    /// follower that lags.
+    fn choice(&mut self) -> u8 {
+        let any = self.random.draw() as u8;
+        if !self.model.is_quorum() || !self.mood.mischief || self.random.chance(400) {
+            return any;
+        }
+        let model = &self.model;
+        let lags = |r: &u8| model.executed(*r) < model.executed(1);
+        let lagging = model.live().filter(lags).last();
+        lagging.map_or(any, |replica| replica - 1)
+    }
+
     fn any_position(&mut self) -> u16 {
         self.random.below(self.model.waiting().max(1)) as u16
     }
@@ -352,6 +396,9 @@ impl Author {
     /// The first unstamped write or the oldest packet as often as the mood
     /// wants, else any.
     fn hasty_position(&mut self) -> u16 {
+        if self.model.is_quorum() {
+            return self.quorum_position();
+        }
         if self.mood.mischief {
             return self.mischievous_position();
         }
@@ -427,6 +474,60 @@ impl Author {
         position
     }
 
+    /// The oldest packet as often as the mood wants, or any; most often another one
+    /// for a packet to be held back. A mischievous mood looks for a direct read whose
+    /// follower lags.
+    fn quorum_position(&mut self) -> u16 {
+        let model = &self.model;
+        let lagging = self.first(|p| match *p {
+            Packet::DirectRead { to, .. } => model.executed(to) < model.executed(1),
+            _ => false,
+        });
+        if let (Some(lagging), true) = (lagging, self.mood.mischief) {
+            if self.random.chance(300) {
+                return lagging;
+            }
+        }
+        let position = match self.random.chance(self.mood.orderly) {
+            true => 0,
+            false => self.any_position(),
+        };
+        let packet = self.model.packets().get(usize::from(position));
+        let kept = packet.map_or(0, |p| self.kept_waiting(p));
+        if self.random.chance(kept) {
+            let other = self.first(|p| self.kept_waiting(p) == 0);
+            return other.unwrap_or(position);
+        }
+        position
+    }
+
+    /// How often of a thousand times a packet of a quorum store is held back: a
+    /// former switch's completion less often than the present one's.
+    fn kept_waiting(&self, packet: &Packet) -> usize {
+        let now = self.model.switch_number();
+        match packet {
+            Packet::Acknowledgement { .. } => self.mood.acks,
+            Packet::Completion { stamp, .. } if stamp.switch() == now => self.mood.late,
+            Packet::Completion { .. } => self.mood.late * 7 / 10,
+            Packet::DirectRead { .. } if self.mood.mischief => 700,
+            _ => 0,
+        }
+    }
+
+    /// An acknowledgement as often as the mood mistreats them, if one waits.
+    fn mistreated(&mut self) -> Option<u16> {
+        if self.mood.acks == 0 || !self.random.chance(self.mood.acks) {
+            return None;
+        }
+        let acks = self.model.packets().iter().enumerate();
+        let acks = acks.filter(|(_, p)| matches!(p, Packet::Acknowledgement { .. }));
+        let places: Vec<u16> = acks.map(|(place, _)| place as u16).collect();
+        match places.as_slice() {
+            [] => None,
+            places => Some(self.random.one_of(places)),
+        }
+    }
+
     /// How often of a thousand times a packet is held back: completions as the
     /// mood wants, normal reads with a stamp or of several objects, and replies
     /// while another copy of their read waits.
@@ -447,6 +548,9 @@ impl Author {
 
     /// A completion if the mood holds them back, else any packet.
     fn losable(&mut self) -> u16 {
+        if let Some(position) = self.mistreated() {
+            return position;
+        }
         if self.random.chance(self.mood.late) {
             let completion = self.first(|p| matches!(p, Packet::Completion { .. }));
             return completion.unwrap_or_else(|| self.any_position());
@@ -465,7 +569,7 @@ impl Author {
 
     /// Most often a packet that may be repeated, if a few tries find one.
     fn repeatable(&mut self) -> u16 {
-        if let Some(position) = self.carrying() {
+        if let Some(position) = self.carrying().or_else(|| self.mistreated()) {
             return position;
         }
         let tries = self.random.one_of(&[0, 4, 4, 4]);
@@ -540,13 +644,24 @@ impl Author {
         }
     }
 
-    /// A replica with a write coming in, if there is one.
+    /// A replica with a write coming in, if there is one; a follower that may lag
+    /// only if the mood lets it no further, or now and then.
     fn advancing(&mut self) -> u8 {
-        let offset = self.random.below(8);
+        let mut offset = self.random.below(8);
+        let any = self.model.is_quorum() && self.random.chance(20);
         let model = &self.model;
+        if model.is_quorum() {
+            offset %= model.live().len();
+        }
         let around = model.live().chain(model.live()).skip(offset);
-        let mut ready = around.filter(|&r| model.incoming(r).len() > 0);
-        ready.next().unwrap_or(1)
+        let ready: Vec<u8> = around.filter(|&r| model.coming(r) > 0).collect();
+        let lags = |&&r: &&u8| usize::from(r) > model.majority() && model.coming(r) < self.mood.lag;
+        let first = ready.first();
+        let wanted = match model.is_quorum() && !any {
+            true => ready.iter().find(|r| !lags(r)),
+            false => first,
+        };
+        wanted.or(first).copied().unwrap_or(1)
     }
 
     /// A replica that does not permit the present switch, or any.
@@ -637,6 +752,7 @@ impl Author {
             },
             JOIN => Step::Join,
             COPY => Step::Copy,
+            EXECUTE => Step::Execute,
             _ => Step::GiveUp {
                 operation: self.wild_operation(operation),
             },

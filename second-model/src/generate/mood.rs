@@ -1,7 +1,7 @@
 //! What a run of each kind tends to do.
 
 use super::Random;
-use crate::model::OBJECTS;
+use crate::model::{Start, OBJECTS, REPLICAS, SIZES};
 
 /// The places of the actions in a table of weights.
 pub const READ: usize = 0;
@@ -17,11 +17,21 @@ pub const GIVE_UP: usize = 9;
 pub const CONTEXT: usize = 10;
 pub const JOIN: usize = 11;
 pub const COPY: usize = 12;
+pub const EXECUTE: usize = 13;
 /// How many actions there are.
-pub const ACTIONS: usize = 13;
+pub const ACTIONS: usize = 14;
+
+/// The store that a run starts.
+#[derive(Clone, Copy, PartialEq, Eq)]
+pub enum Shape {
+    Chain,
+    Quorum,
+}
 
 /// What a run tends to do.
 pub struct Mood {
+    /// What it starts.
+    pub shape: Shape,
     /// Replicas at the start.
     pub replicas: u8,
     /// The objects it reads and writes.
@@ -57,14 +67,49 @@ pub struct Mood {
     pub short: usize,
     /// Do wild give-ups name operations above 65,535 and late ones?
     pub far: bool,
+    /// In a quorum store, the number of entries not executed around which it stays.
+    pub unexecuted: usize,
+    /// In a quorum store, the items in its link with which a follower beyond a
+    /// majority is advanced.
+    pub lag: usize,
+    /// Of a thousand acknowledgements, those held back; losses and repeats are as
+    /// often of one.
+    pub acks: usize,
+}
+
+impl Mood {
+    /// The start of the file.
+    pub fn start(&self) -> Start {
+        let replicas = self.replicas;
+        match self.shape {
+            Shape::Chain => Start::Chain { replicas },
+            Shape::Quorum => Start::Quorum { replicas },
+        }
+    }
+
+    /// The same, or a near one that is taken.
+    pub fn sound_start(&self) -> Start {
+        let n = self.replicas;
+        match self.shape {
+            Shape::Chain => Start::Chain {
+                replicas: n.clamp(1, REPLICAS),
+            },
+            Shape::Quorum => Start::Quorum {
+                replicas: if SIZES.contains(&n) { n } else { SIZES[0] },
+            },
+        }
+    }
 }
 
 /// The mood of a kind.
 pub fn mood(kind: &str, random: &mut Random, length: usize) -> Mood {
     let mut mood = Mood {
+        shape: Shape::Chain,
         replicas: random.within(1, 8) as u8,
         objects: some_objects(random, 40),
-        weights: [1500, 1500, 6000, 150, 200, 3000, 4, 1500, 0, 100, 0, 0, 0],
+        weights: [
+            1500, 1500, 6000, 150, 200, 3000, 4, 1500, 0, 100, 0, 0, 0, 0,
+        ],
         waiting: random.within(3, 30),
         linked: random.within(2, 12),
         open: random.within(20, 60),
@@ -78,6 +123,9 @@ pub fn mood(kind: &str, random: &mut Random, length: usize) -> Mood {
         begins: u32::MAX,
         short: 0,
         far: false,
+        unexecuted: 0,
+        lag: 0,
+        acks: 0,
     };
     mood.weights[REMOVE] = removal_weight(length, 3);
     match kind {
@@ -101,6 +149,13 @@ pub fn mood(kind: &str, random: &mut Random, length: usize) -> Mood {
         "join-faults" => refuse_joins(&mut mood, random),
         "small-joins" => stay_small_with_joins(&mut mood, random, length),
         "give-ups" => give_up_often(&mut mood, random),
+        "quorum" => run_quorum(&mut mood, random),
+        "quorum-full" => fill_quorum(&mut mood, random),
+        "quorum-acks" => mistreat_acknowledgements(&mut mood, random),
+        "quorum-replacements" => replace_over_a_quorum(&mut mood, random),
+        "quorum-faults" => refuse_in_a_quorum(&mut mood, random),
+        "chain-executes" => execute_in_a_chain(&mut mood, random),
+        "small-quorum" => stay_small_with_a_quorum(&mut mood, random),
         _ => {}
     }
     mood
@@ -234,7 +289,7 @@ fn stay_small(mood: &mut Mood, random: &mut Random, length: usize) {
     mood.begins = random.within(5, 8) as u32;
     mood.waiting = random.within(2, 5);
     mood.linked = 0;
-    mood.weights = [700, 450, 6000, 60, 200, 2500, 30, 2500, 0, 5, 0, 0, 0];
+    mood.weights = [700, 450, 6000, 60, 200, 2500, 30, 2500, 0, 5, 0, 0, 0, 0];
     mood.weights[ADVANCE] = random.one_of(&[400, 1000, 2500]);
     mood.weights[REMOVE] = removal_weight(length, random.one_of(&[0, 1, 1]));
     mood.orderly = random.one_of(&[0, 200, 500]);
@@ -409,6 +464,140 @@ fn give_up_often(mood: &mut Mood, random: &mut Random) {
     mood.wild = random.one_of(&[20, 100, 400]);
     mood.short = random.one_of(&[100, 500, 500, 900, 1000]);
     mood.far = true;
+}
+
+/// A leader with followers under reads and writes of few objects. Followers beyond
+/// a majority lag far behind or not; completions are late or not; reads are held
+/// back until their follower lags, or not.
+fn run_quorum(mood: &mut Mood, random: &mut Random) {
+    mood.shape = Shape::Quorum;
+    mood.replicas = random.one_of(&[3, 3, 3, 5, 5, 7]);
+    mood.objects = different_objects(random, 2, 8);
+    mood.weights[REMOVE] = 0;
+    mood.weights[READ] = random.one_of(&[1500, 3500]);
+    mood.weights[WRITE] = random.one_of(&[300, 800, 1500]);
+    mood.weights[ADVANCE] = random.one_of(&[1500, 6000]);
+    mood.weights[CONTEXT] = random.one_of(&[0, 600, 2500]);
+    mood.weights[EXECUTE] = random.one_of(&[1500, 6000]);
+    mood.weights[TELL] = 4000;
+    mood.waiting = random.within(3, 20);
+    mood.linked = random.one_of(&[0, 2, 8, 30]);
+    mood.orderly = random.one_of(&[100, 500, 900]);
+    mood.late = random.one_of(&[0, 0, 500, 900]);
+    mood.unexecuted = random.one_of(&[0, 0, 1, 4]);
+    mood.lag = random.one_of(&[0, 2, 10, 50, 62]);
+    mood.mischief = random.chance(400);
+}
+
+/// The log nearly full, or the links, or the list, or all of them.
+fn fill_quorum(mood: &mut Mood, random: &mut Random) {
+    run_quorum(mood, random);
+    mood.objects = different_objects(random, 2, 8);
+    mood.open = 30;
+    mood.weights[WRITE] = 3500;
+    mood.weights[READ] = 300;
+    mood.weights[CONTEXT] = 0;
+    mood.weights[ADVANCE] = 6000;
+    mood.weights[GIVE_UP] = 2500;
+    mood.orderly = random.one_of(&[700, 950]);
+    mood.late = 0;
+    mood.mischief = false;
+    let which = random.below(5);
+    mood.unexecuted = match which {
+        0 | 1 | 4 => random.within(62, 66),
+        _ => random.one_of(&[0, 1, 20]),
+    };
+    mood.lag = match which {
+        2..5 => random.within(62, 66),
+        _ => random.one_of(&[0, 4]),
+    };
+    mood.linked = 0;
+    if random.chance(300) {
+        mood.waiting = random.within(61, 65);
+        mood.weights[REPEAT] = 1500;
+    }
+}
+
+/// Acknowledgements held back, lost and repeated.
+fn mistreat_acknowledgements(mood: &mut Mood, random: &mut Random) {
+    run_quorum(mood, random);
+    mood.weights[LOSE] = random.one_of(&[150, 800, 1500]);
+    mood.weights[REPEAT] = random.one_of(&[200, 1500]);
+    mood.weights[WRITE] = 1500;
+    mood.acks = random.one_of(&[200, 600, 900]);
+    mood.unexecuted = random.one_of(&[0, 0, 4, 20]);
+    mood.waiting = random.one_of(&[4, 15, 40]);
+}
+
+/// New switches, with completions and followers left behind.
+fn replace_over_a_quorum(mood: &mut Mood, random: &mut Random) {
+    run_quorum(mood, random);
+    mood.objects = different_objects(random, 2, 4);
+    mood.weights[WRITE] = 1500;
+    mood.weights[REPLACE] = random.one_of(&[30, 100, 300]);
+    mood.weights[TELL] = random.one_of(&[1000, 4000, 20_000]);
+    mood.weights[REPEAT] = 800;
+    mood.late = random.one_of(&[300, 700, 950]);
+}
+
+/// The same with steps that this store refuses, fields at their limits, and starts
+/// of other sizes.
+fn refuse_in_a_quorum(mood: &mut Mood, random: &mut Random) {
+    run_quorum(mood, random);
+    mood.wild = random.one_of(&[20, 100, 400]);
+    mood.weights[REMOVE] = random.one_of(&[20, 200]);
+    mood.weights[JOIN] = random.one_of(&[20, 200]);
+    mood.weights[COPY] = random.one_of(&[2000, 20_000]);
+    if random.chance(150) {
+        mood.replicas = random.one_of(&[0, 1, 2, 4, 6, 8, 9, 32, 128, 255]);
+    }
+}
+
+/// A chain in which a leader's step is tried.
+fn execute_in_a_chain(mood: &mut Mood, random: &mut Random) {
+    mood.objects = different_objects(random, 2, 8);
+    mood.weights[EXECUTE] = random.one_of(&[100, 1500]);
+    mood.weights[CONTEXT] = random.one_of(&[0, 600]);
+    mood.weights[JOIN] = random.one_of(&[0, 300]);
+    mood.weights[COPY] = 4000;
+    mood.wild = random.one_of(&[10, 100]);
+}
+
+/// Few operations on one or two objects. One follower lags, so that replicas differ.
+fn stay_small_with_a_quorum(mood: &mut Mood, random: &mut Random) {
+    run_quorum(mood, random);
+    mood.replicas = random.one_of(&[3, 3, 3, 5]);
+    mood.objects = different_objects(random, 1, 2);
+    mood.begins = random.within(6, 11) as u32;
+    mood.waiting = random.within(2, 6);
+    mood.linked = 0;
+    mood.weights[READ] = 700;
+    mood.weights[WRITE] = 400;
+    mood.weights[CONTEXT] = match mood.objects.len() {
+        1 => 0,
+        _ => random.one_of(&[0, 300]),
+    };
+    mood.weights[GIVE_UP] = 5;
+    mood.lag = random.one_of(&[4, 10, 62]);
+    mood.mischief = random.chance(800);
+    mood.wild = 0;
+    mood.weights[TELL] = 20_000;
+    if random.chance(500) {
+        leave_completions_behind(mood, random);
+    }
+}
+
+/// Completions wait until the switch is replaced, and one follower lags by a write or
+/// two.
+fn leave_completions_behind(mood: &mut Mood, random: &mut Random) {
+    mood.replicas = 3;
+    mood.objects.truncate(1);
+    mood.begins = random.within(8, 11) as u32;
+    mood.weights[CONTEXT] = 0;
+    mood.weights[WRITE] = 600;
+    mood.weights[REPLACE] = random.one_of(&[100, 300]);
+    mood.late = random.one_of(&[900, 1000]);
+    mood.lag = random.within(2, 5);
 }
 
 #[cfg(test)]

@@ -4,7 +4,7 @@
 mod newcomer;
 
 use super::{Stamp, FULL, OBJECTS};
-use newcomer::Newcomer;
+pub(super) use newcomer::Newcomer;
 use std::collections::VecDeque;
 
 /// A write with its stamp, as a replica applies it and a link holds it.
@@ -106,11 +106,6 @@ impl Chain {
     /// Is this the place of the tail?
     pub fn is_tail(&self, place: usize) -> bool {
         place + 1 == self.replicas.len()
-    }
-
-    /// Does every live replica permit this switch number?
-    pub fn all_permit(&self, switch: u16) -> bool {
-        self.replicas.iter().all(|r| r.permits == switch)
     }
 
     /// The writes that all links hold together.

@@ -1,7 +1,8 @@
-//! The rules of document 01, and of Req 01, Req 02, Req 04 and Req 07 of document
-//! 02, at the level of single steps, worked out by hand.
+//! The rules of document 01, and of Req 01, Req 02, Req 04, Req 07 and Req 11 of
+//! document 02, at the level of single steps, worked out by hand.
 
 mod joins;
+mod quorum;
 mod soaks;
 
 use super::*;
@@ -9,7 +10,7 @@ use super::*;
 const OK: Answer = Ok(None);
 
 fn model(n: u8) -> Model {
-    Model::start(n).unwrap()
+    Model::start(Start::Chain { replicas: n }).unwrap()
 }
 
 fn no(refusal: Refusal) -> Answer {
@@ -145,7 +146,7 @@ fn p2_objects() {
 
 #[test]
 fn p3_starts() {
-    let refused = |n| Model::start(n).err();
+    let refused = |n| Model::start(Start::Chain { replicas: n }).err();
     assert_eq!(refused(0), Some(Refusal::BadReplicaCount));
     assert_eq!(refused(9), Some(Refusal::BadReplicaCount));
     assert_eq!(model(1).live().collect::<Vec<_>>(), [1]);

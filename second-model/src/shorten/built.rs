@@ -11,7 +11,7 @@
 //! the write stands where the next block's repeats take their copies, or nothing
 //! does: they are refused. So a block is held fast until the next one is used up.
 
-use crate::model::Step;
+use crate::model::{Start, Step};
 use crate::records::{append, Record};
 
 /// The losses of each block of the worst run known.
@@ -46,7 +46,7 @@ pub fn built(losses: &[u16]) -> Vec<u8> {
     let position = waiting + 1;
     steps.extend([write, write, Step::Repeat { position }]);
     let mut file = Vec::new();
-    append(Record::Start { replicas: 1 }, &mut file);
+    append(Record::Start(Start::Chain { replicas: 1 }), &mut file);
     for step in steps {
         append(Record::Step(step), &mut file);
     }

@@ -137,7 +137,7 @@ fn some_record(random: &mut Random) -> Vec<u8> {
         14 => Step::GiveUp {
             operation: random.within(1, 200) as u32,
         },
-        15 => random.one_of(&[Step::Join, Step::Copy, Step::Copy]),
+        15 => random.one_of(&[Step::Join, Step::Copy, Step::Copy, Step::Execute]),
         16 => random.one_of(&[Step::Remove { replica }, Step::Tell { replica }]),
         _ => Step::Replace {
             switch: random.within(2, 20) as u16,

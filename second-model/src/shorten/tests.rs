@@ -44,6 +44,23 @@ fn a_give_up_refused() {
     );
 }
 
+/// Runs of a leader with followers, and 23 and 24 among the numbers. With a majority
+/// and 63 waiting the last one is 6; each record but one is needed for it.
+#[test]
+fn what_is_left_of_quorum_runs() {
+    let logged = "start-quorum 3; write 5 9; 2 * deliver 0";
+    assert_left(
+        &format!("{logged}; advance 3; execute"),
+        "start-quorum 3; execute",
+    );
+    assert_left(&format!("{logged}; remove 2"), "start-quorum 3; remove 2");
+    assert_left("start-quorum 7; join; copy", "start-quorum 7; copy");
+    assert_left("start 2; write 5 9; execute", "start 2; execute");
+    let run =
+        |tell| format!("{logged}; advance 2; {tell} deliver 0; read 6; 62 * repeat 0; execute");
+    assert_left(&run("tell 2;"), &run(""));
+}
+
 /// A give-up stays as it is laid out, with length 2 or 4, between or last.
 #[test]
 fn records_stay_byte_for_byte() {
@@ -115,6 +132,9 @@ fn refusals_and_their_order() {
     refused(&file("start 2; start 9"), 1);
     refused(&file("start 2; read 1024; bytes 1 0"), 1);
     refused(&file("start 2; 600 * read 1024; bytes 1 0"), 1);
+    refused(&file("start-quorum 4; execute"), 2);
+    refused(&file("start-quorum 3; execute; start-quorum 4"), 1);
+    refused(&file("start-quorum 3; execute; tell 1"), 21);
     refused(&file("start 2; 512 * read 1024"), 22);
     refused(&file("start 2; 511 * read 1024; tell 1"), 22);
     refused(&file("start 2"), 21);
@@ -145,9 +165,9 @@ fn a_lent_buffer() {
 /// What the last record of a file is refused by.
 fn refusal_of(records: &[&[u8]]) -> Option<Refusal> {
     let file = records.concat();
-    let (replicas, start) = read_start(&file).unwrap();
-    let steps = read_steps(&file[start.len()..]).unwrap();
-    last_refusal(replicas, steps.into_iter().map(|(step, _)| step))
+    let (start, bytes) = read_start(&file).unwrap();
+    let steps = read_steps(&file[bytes.len()..]).unwrap();
+    last_refusal(start, steps.into_iter().map(|(step, _)| step))
 }
 
 /// Are the first records all among the others, in order?

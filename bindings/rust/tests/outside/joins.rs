@@ -403,11 +403,11 @@ fn replicas_are_those_of_the_second_model() {
     for seed in 0..24 {
         let file = generate("joins", seed, 6000).expect("a kind");
         let pieces = records::pieces(&file);
-        let [32, 0, 1, n] = *pieces[0] else {
+        let Some((Record::Start(start), _)) = records::read(pieces[0]) else {
             continue;
         };
-        let mut model = Model::start(n).expect("1 to 8");
-        let mut second = model::Model::start(n).expect("1 to 8");
+        let mut model = Model::start_record(pieces[0]).expect("1 to 8");
+        let mut second = model::Model::start(start).expect("1 to 8");
         agree(&model, &second, &mut random);
         for record in &pieces[1..] {
             let Some((Record::Step(step), _)) = records::read(record) else {

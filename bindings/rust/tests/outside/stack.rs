@@ -44,8 +44,13 @@ fn a_shortening_has_enough() {
 /// system gives one.
 #[test]
 fn a_session_has_enough() {
+    enough_from(Model::start(3).expect("three"));
+    enough_from(Model::start_quorum(7).expect("seven"));
+}
+
+fn enough_from(started: Model) {
     let mut random = Random::new(17);
-    let mut model = Model::start(3).expect("three");
+    let mut model = started.clone();
     let mut line = vec![0; LONGEST_LINE];
     let records: Vec<_> = (0..2000)
         .map(|_| {
@@ -55,10 +60,11 @@ fn a_session_has_enough() {
         })
         .collect();
     let ended = within(18 * 1024, || {
-        let mut model = Model::start(3).expect("three");
+        let mut model = started;
         for record in &records {
             model.step(record);
             model.line(2, &mut line);
+            model.positions(2);
         }
         model.bytes()
     });

@@ -12,11 +12,11 @@ returns c = simp (← c .before .before .before .before .count .ensures .0, ← 
 
 returns-2 : tie.Need-returns-2
 unfolding directContext isMember tableOf
-returns-2 c = simp (← c .before .before .before .before .before .before .before .before .before .count .ensures .0, ← c .before .before .before .before .before .before .before .before .place .ensures, lt-ltb _ _ (c .before .before .before .before .before .before .before .if1 .left), ← c .before .before .before .before .before .before .member .ensures, ← c .before .before .before .before .load .ensures, ← c .before .before .before .answers .ensures, c .before .before .if2 .taken, c .answer .ensures .0, c .answer .ensures .1) (refl, refl)
+returns-2 c = simp (← c .before .before .before .before .before .before .before .before .before .count .ensures .0, ← c .before .before .before .before .before .before .before .before .place .ensures, lt-ltb _ _ (c .before .before .before .before .before .before .before .if1 .left), ← c .before .before .before .before .before .before .member .ensures, ← c .before .before .before .before .load .ensures, ← c .before .before .before .answers-read .ensures, c .before .before .if2 .taken, c .answer .ensures .0, c .answer .ensures .1) (refl, refl)
 
 returns-3 : tie.Need-returns-3
 unfolding directContext isMember tableOf
-returns-3 c = simp (← c .before .before .before .before .before .before .before .before .before .count .ensures .0, ← c .before .before .before .before .before .before .before .before .place .ensures, lt-ltb _ _ (c .before .before .before .before .before .before .before .if1 .left), ← c .before .before .before .before .before .before .member .ensures, ← c .before .before .before .before .load .ensures, ← c .before .before .before .answers .ensures, c .before .before .if2 .left, ← c .before .read-replica-number .ensures, ← c .pass-on .ensures) (refl, refl)
+returns-3 c = simp (← c .before .before .before .before .before .before .before .before .before .count .ensures .0, ← c .before .before .before .before .before .before .before .before .place .ensures, lt-ltb _ _ (c .before .before .before .before .before .before .before .if1 .left), ← c .before .before .before .before .before .before .member .ensures, ← c .before .before .before .before .load .ensures, ← c .before .before .before .answers-read .ensures, c .before .before .if2 .left, ← c .before .read-replica-number .ensures, ← c .pass-on .ensures) (refl, refl)
 
 pub direct-read-spec : {M : Type 1} → statement M
 direct-read-spec =

@@ -61,6 +61,10 @@ returns-14 : tie.Need-returns-14
 unfolding decided
 returns-14 c = rw (c .before .before .enum-told2 .given .1) (leaves (c .copy-on .ensures .0) refl (c .copy-on .ensures .1) refl)
 
+returns-15 : tie.Need-returns-15
+unfolding decided
+returns-15 c = rw (c .before .before .enum-told3 .given .1) (leaves (c .execute .ensures .0) refl (c .execute .ensures .1) refl)
+
 pub decide-step-spec : {M : Type 1} → statement M
 decide-step-spec =
     tie.close
@@ -98,6 +102,8 @@ decide-step-spec =
     (λ c κs. search needs)
     (λ c. search needs)
     (λ c κs. search needs)
+    (λ c. search needs)
+    (λ c κs. search needs)
     returns
     returns-2
     returns-3
@@ -111,4 +117,5 @@ decide-step-spec =
     returns-11
     returns-12
     returns-13
-    returns-14)
+    returns-14
+    returns-15)

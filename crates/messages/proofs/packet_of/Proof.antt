@@ -49,12 +49,18 @@ returns-11 c = rw (c .before .before .m11 .given .1) (c .packet11 .ensures)
 
 returns-12 : tie.Need-returns-12
 unfolding packetOf
-returns-12 c = rw (c .before .enum-told .given .1) (c .blank .ensures)
+returns-12 c = rw (c .before .before .m12 .given .1) (c .packet12 .ensures)
+
+returns-13 : tie.Need-returns-13
+unfolding packetOf
+returns-13 c = rw (c .before .enum-told .given .1) (c .blank .ensures)
 
 pub packet-of-spec : {M : Type 1} → statement M
 packet-of-spec =
     tie.close
     (tie.spec
+    (λ c. search needs)
+    (λ c κs. search needs)
     (λ c. search needs)
     (λ c κs. search needs)
     (λ c. search needs)
@@ -90,4 +96,5 @@ packet-of-spec =
     returns-9
     returns-10
     returns-11
-    returns-12)
+    returns-12
+    returns-13)

@@ -11,11 +11,11 @@ returns c = simp (← c .before .before .before .count .ensures .0, ← c .befor
 
 returns-2 : tie.Need-returns-2
 unfolding directRead isMember tableOf
-returns-2 c = simp (← c .before .before .before .before .before .before .before .count .ensures .0, ← c .before .before .before .before .before .before .place .ensures, lt-ltb _ _ (c .before .before .before .before .before .if1 .left), ← c .before .before .before .before .member .ensures, ← c .before .before .before .answers .ensures, c .before .before .if2 .taken, ← c .before .read-value .ensures, ← c .pass-on .ensures)
+returns-2 c = simp (← c .before .before .before .before .before .before .before .count .ensures .0, ← c .before .before .before .before .before .before .place .ensures, lt-ltb _ _ (c .before .before .before .before .before .if1 .left), ← c .before .before .before .before .member .ensures, ← c .before .before .before .answers-read .ensures, c .before .before .if2 .taken, ← c .before .read-value .ensures, ← c .pass-on .ensures)
 
 returns-3 : tie.Need-returns-3
 unfolding directRead isMember tableOf
-returns-3 c = simp (← c .before .before .before .before .before .before .before .count .ensures .0, ← c .before .before .before .before .before .before .place .ensures, lt-ltb _ _ (c .before .before .before .before .before .if1 .left), ← c .before .before .before .before .member .ensures, ← c .before .before .before .answers .ensures, c .before .before .if2 .left, ← c .before .read-replica-number .ensures, ← c .pass-on2 .ensures)
+returns-3 c = simp (← c .before .before .before .before .before .before .before .count .ensures .0, ← c .before .before .before .before .before .before .place .ensures, lt-ltb _ _ (c .before .before .before .before .before .if1 .left), ← c .before .before .before .before .member .ensures, ← c .before .before .before .answers-read .ensures, c .before .before .if2 .left, ← c .before .read-replica-number .ensures, ← c .pass-on2 .ensures)
 
 pub direct-read-spec : {M : Type 1} → statement M
 direct-read-spec =

@@ -128,8 +128,14 @@ fn permit_and_highest_stamp_are_the_tail_s_at_the_end() {
     model.copies(1);
     assert_eq!((model.permits(1), model.permits(3)), (Some(4), Some(3)));
     assert_eq!(model.highest(3), Stamp::new(3, 1));
-    assert_eq!(model.chain.accepting(3, Stamp::new(3, 1)), None);
-    assert_eq!(model.chain.accepting(3, Stamp::new(3, 2)), Some(2));
+    assert_eq!(
+        model.store.chain().unwrap().accepting(3, Stamp::new(3, 1)),
+        None
+    );
+    assert_eq!(
+        model.store.chain().unwrap().accepting(3, Stamp::new(3, 2)),
+        Some(2)
+    );
 }
 
 /// Every write to a copied object is there in the same step, others come with

@@ -59,10 +59,18 @@ returns-18 c = simp (c .enum-told18 .given .1)
 returns-19 : tie.Need-returns-19
 returns-19 c = simp (c .enum-told19 .given .1)
 
+returns-20 : tie.Need-returns-20
+returns-20 c = simp (c .enum-told20 .given .1)
+
+returns-21 : tie.Need-returns-21
+returns-21 c = simp (c .enum-told21 .given .1)
+
 pub refusal-number-spec : {M : Type 1} → statement M
 refusal-number-spec =
     tie.close
     (tie.spec
+    (λ c. search needs)
+    (λ c. search needs)
     (λ c. search needs)
     (λ c. search needs)
     (λ c. search needs)
@@ -100,4 +108,6 @@ refusal-number-spec =
     returns-16
     returns-17
     returns-18
-    returns-19)
+    returns-19
+    returns-20
+    returns-21)

@@ -44,6 +44,8 @@ record-of-spec =
     (λ c κs. search needs)
     (λ c. search needs)
     (λ c κs. search needs)
+    (λ c. search needs)
+    (λ c κs. search needs)
     start
     (λ c. simp (c .before .before .step2 .given .1, c .two-bytes .ensures, c .before .before .before .before .kind-of .ensures))
     (λ c. simp (c .before .before .step3 .given .1, c .two-and-four .ensures, c .before .before .before .before .kind-of .ensures))
@@ -57,4 +59,5 @@ record-of-spec =
     (λ c. simp (c .before .before .step11 .given .1, c .four-bytes .ensures, c .before .before .before .before .kind-of .ensures))
     begin-context
     (λ c. simp (c .before .enum-told .given .1, c .header .ensures, c .before .before .before .kind-of .ensures))
-    (λ c. simp (c .before .enum-told2 .given .1, c .header2 .ensures, c .before .before .before .kind-of .ensures)))
+    (λ c. simp (c .before .enum-told2 .given .1, c .header2 .ensures, c .before .before .before .kind-of .ensures))
+    (λ c. simp (c .before .enum-told3 .given .1, c .header3 .ensures, c .before .before .before .kind-of .ensures)))
