@@ -1,10 +1,15 @@
 // Whether the model prints for a stored example what another model prints for it.
 ghost use mathlib.Core.Path.{_≡_};
+ghost use mathlib.Core.Bool.{false, cond};
 ghost use Prim.Native.Nat.{ℕ, _+_, _≤_, min};
+ghost use lib.Dec.{ltb};
 ghost use lib.ListN.{length, take};
 ghost use Rattle.io.specs.Counts.{Counts};
 ghost use Rattle.runs.specs.Runs.{printed};
 ghost use Rattle.agreement.specs.{standsIn, sameBytes, outputRoom, outputsOf};
+
+// Room for the output of any input.
+const OUTPUT_ROOM: usize = 3276800;
 
 // Whether the bytes of `part` stand in `s` from a place on.
 fn stands_at(s: &[u8], at: usize, part: &[u8]) -> bool
@@ -79,8 +84,7 @@ fn print(input: &[u8], out: &mut [u8]) -> usize
     runs::print(input, &mut *out)
 }
 
-// Whether the model prints for the example what is expected: its records and its lines are read from two files, into the front of two buffers.
-pub fn agrees(name: &[u8], input: &mut [u8], expected: &mut [u8], out: &mut [u8]) -> bool
+fn agrees_with_room(name: &[u8], input: &mut [u8], expected: &mut [u8], out: &mut [u8]) -> bool
     requires { ⌜ outputRoom ≤ length (now out) ⌝ }
     ensures { λ r. ⌜ ((n : ℕ) × (m : ℕ) × (r ≡ sameBytes (printed (take n (now (input .exit)))) (take m (now (expected .exit))))) ⌝ }
 {
@@ -88,6 +92,17 @@ pub fn agrees(name: &[u8], input: &mut [u8], expected: &mut [u8], out: &mut [u8]
     let m = read_named(name, b".lines", &mut *expected);
     let used = print(&input[..n], &mut *out);
     same(&out[..used], &expected[..m])
+}
+
+// Whether the model prints for the example what is expected: its records and its lines are read from two files, into the front of two buffers. No where the third has not
+// room for any output.
+pub fn agrees(name: &[u8], input: &mut [u8], expected: &mut [u8], out: &mut [u8]) -> bool
+    ensures { λ r. ⌜ ((n : ℕ) × (m : ℕ) × (r ≡ cond (ltb (length (now (out .entry))) outputRoom) false (sameBytes (printed (take n (now (input .exit)))) (take m (now (expected .exit)))))) ⌝ }
+{
+    if out.len() < OUTPUT_ROOM {
+        return false; // and no file is read
+    }
+    agrees_with_room(name, &mut *input, &mut *expected, &mut *out)
 }
 
 // The place after n bytes, or the end.
@@ -103,8 +118,7 @@ pub fn after(s: &[u8], at: usize, n: usize) -> usize
     at + n
 }
 
-// Whether the model prints for the input, cut at each of its bytes in turn, what is expected, one output after the other.
-pub fn cuts_agree(input: &[u8], expected: &[u8], out: &mut [u8]) -> bool
+fn cuts_agree_with_room(input: &[u8], expected: &[u8], out: &mut [u8]) -> bool
     requires { ⌜ outputRoom ≤ length (now out) ⌝ }
     ensures { λ r. ⌜ r ≡ sameBytes (now (expected .entry)) (outputsOf (now (input .entry))) ⌝ }
 {
@@ -119,4 +133,14 @@ pub fn cuts_agree(input: &[u8], expected: &[u8], out: &mut [u8]) -> bool
         cut += 1;
     }
     at == expected.len()
+}
+
+// Whether the model prints for the input, cut at each of its bytes in turn, what is expected, one output after the other. No where the buffer has not room for any output.
+pub fn cuts_agree(input: &[u8], expected: &[u8], out: &mut [u8]) -> bool
+    ensures { λ r. ⌜ r ≡ cond (ltb (length (now (out .entry))) outputRoom) false (sameBytes (now (expected .entry)) (outputsOf (now (input .entry)))) ⌝ }
+{
+    if out.len() < OUTPUT_ROOM {
+        return false;
+    }
+    cuts_agree_with_room(input, expected, &mut *out)
 }

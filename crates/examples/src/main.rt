@@ -1,15 +1,11 @@
 // Tries the stored examples: `index` names them, NAME.records is run, and NAME.lines is what another model prints for it. The listing is also run cut at each of
 // its bytes, against listing-cuts.lines. Names of examples that differ are printed, and last how many were tried and how many differ.
-ghost use mathlib.Core.Path.{_≡_};
 ghost use Prim.Native.Nat.{_≤_};
 ghost use lib.ListN.{length};
-ghost use Rattle.agreement.specs.{outputRoom};
 use libc::STDOUT_FILENO;
 
 // Room for the lines of any input: `printed-short`, crates/runs/proofs/Whole.antt.
-fn output_room() -> [u8; 3276800]
-    ensures { λ r. ⌜ outputRoom ≡ length r ⌝ }
-{
+fn output_room() -> [u8; 3276800] {
     [0; 3276800]
 }
 
@@ -25,9 +21,7 @@ fn count_differing(
     input: &mut [u8],
     expected: &mut [u8],
     out: &mut [u8],
-) -> u32
-    requires { ⌜ outputRoom ≤ length (now out) ⌝ }
-{
+) -> u32 {
     if agreement::agrees(name, &mut *input, &mut *expected, &mut *out) {
         return differ;
     }
@@ -50,9 +44,7 @@ fn report(tried: u32, differ: u32) {
 }
 
 // The examples that the index names, one to a line.
-fn try_named(index: &[u8], input: &mut [u8], expected: &mut [u8], out: &mut [u8])
-    requires { ⌜ outputRoom ≤ length (now out) ⌝ }
-{
+fn try_named(index: &[u8], input: &mut [u8], expected: &mut [u8], out: &mut [u8]) {
     let mut tried = 0;
     let mut differ = 0;
     let mut at = 0;
@@ -86,9 +78,7 @@ fn line_end(s: &[u8], at: usize) -> usize
     i
 }
 
-fn try_cuts(input: &mut [u8], expected: &mut [u8], out: &mut [u8])
-    requires { ⌜ outputRoom ≤ length (now out) ⌝ }
-{
+fn try_cuts(input: &mut [u8], expected: &mut [u8], out: &mut [u8]) {
     let n = agreement::read_named(b"listing", b".records", &mut *input);
     let m = agreement::read_named(b"listing-cuts", b".lines", &mut *expected);
     if agreement::cuts_agree(&input[..n], &expected[..m], &mut *out) {
