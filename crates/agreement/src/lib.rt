@@ -1,4 +1,6 @@
 // Whether the model prints for a stored example what another model prints for it.
+#![tactic(auto)]
+
 ghost use Rattle.std.specs.Prelude.{◌≡◌, false, cond, ℕ, ◌+◌, ◌≤◌, min, ltb, length, take};
 ghost use Rattle.io.specs.Counts.{IsPrefixLen};
 ghost use Rattle.runs.specs.Runs.{printed};

@@ -1,4 +1,6 @@
 // The steps that begin an operation: of one object, and of a whole context.
+#![tactic(auto)]
+
 ghost use Rattle.std.specs.Prelude.{◌≡◌, ◌+◌, ◌<◌};
 ghost use Rattle.limits.specs.{last_operation};
 ghost use Rattle.operations.specs.{last_given, opening};

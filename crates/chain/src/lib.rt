@@ -1,4 +1,6 @@
 // The chain's shape: which replicas are live, in which order, and which switch they permit.
+#![tactic(auto)]
+
 ghost use Rattle.std.specs.Prelude.{◌≡◌, ◌≤◌, ◌<◌};
 ghost use Rattle.store.specs.{live_count, order_at, number_at};
 ghost use Rattle.chain.specs.{member_at, head_of, tail_of, place_of, number_in, head_number, tail_number, read_replica_of, read_replica_number, is_read_place, chosen_by, permits, all_permit, permitting, removed, numbered, empty_store};

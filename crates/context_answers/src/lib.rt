@@ -1,4 +1,6 @@
 // Reads of several objects (document 02, Req 02) at a replica, and their replies.
+#![tactic(auto)]
+
 ghost use Rattle.std.specs.Prelude.{◌≡◌};
 ghost use Rattle.lists.specs.{all_of};
 ghost use Rattle.store.specs.{value_at};

@@ -1,4 +1,6 @@
 // What becomes of the row of a packet of a read of several objects (document 02, Req 02) when the packet leaves the list.
+#![tactic(auto)]
+
 ghost use Rattle.std.specs.Prelude.{◌≡◌};
 ghost use Rattle.protocol.specs.Contexts.{has_row, released, leaving, dropping_row};
 

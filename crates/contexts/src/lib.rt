@@ -1,4 +1,6 @@
 // The contexts that are being read: up to eight numbers each, in rows of the cells that lie behind the open operations.
+#![tactic(auto)]
+
 ghost use Rattle.std.specs.Prelude.{◌≡◌, ◌≤◌, ◌<◌};
 ghost use Rattle.lists.specs.{index_of};
 ghost use Rattle.contexts.specs.{context_of, place_of, size_of, numbers_of, kept_at, is_count, is_object, are_objects, are_different, is_context, empty_at, is_naming};
@@ -9,7 +11,7 @@ use operations::CELLS;
 
 // How many numbers, and the numbers: the objects of a read until it is answered, and their values then.
 #[repr(C)]
-#[derive(Drop)]
+#[derive(Clone, Copy)]
 pub struct Context {
     pub count: u32,
     pub first: u32,
@@ -23,7 +25,7 @@ pub struct Context {
 }
 
 // How many objects a step names, and the objects, in the width that its record gives them; 0 behind the last.
-#[derive(Drop)]
+#[derive(Clone, Copy)]
 pub struct Objects {
     pub count: u32,
     pub first: u16,

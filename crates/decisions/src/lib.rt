@@ -1,4 +1,6 @@
 // The commonest decisions, and the edits of the waiting list that they ask for.
+#![tactic(auto)]
+
 ghost use Rattle.std.specs.Prelude.{◌≡◌, ◌-◌};
 ghost use Rattle.protocol.specs.Decisions.{no_edit, take_out, take_out_add, take_out_add_two, add_one, add_two, deciding, refusing, dropping, passing, overfull};
 

@@ -1,4 +1,6 @@
 // Which rule decides a step: crates/packet_delivery, begins and steps have the rules.
+#![tactic(auto)]
+
 ghost use Rattle.protocol.specs.Decisions.{given};
 ghost use Rattle.packet_delivery.specs.{Leaves};
 ghost use Rattle.std.specs.Prelude.{◌≡◌};

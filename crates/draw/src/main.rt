@@ -1,5 +1,7 @@
 // The draw program: the records of the run that a seed draws go to standard output. Its words are the seed, the number of replicas and the number of steps, in digits; a
 // refusal goes to standard error, and so does the usage where the words are others.
+#![tactic(auto)]
+
 use libc::{STDERR_FILENO, STDOUT_FILENO};
 
 // A larger number is read as this one, which is above every number that is taken.
@@ -8,7 +10,7 @@ const LARGE: u64 = 1000000000000;
 const LAST_SEED: u64 = 4294967295;
 
 // A word of the command: its number, and whether it is digits only.
-#[derive(Drop)]
+#[derive(Clone, Copy)]
 struct Argument {
     pub is_number: bool,
     pub number: u64,

@@ -1,4 +1,6 @@
 // Runs drawn from a seed (document 02, Req 08): records of random steps, the same on every machine.
+#![tactic(auto)]
+
 ghost use Rattle.std.specs.Prelude.{◌≡◌, ◌+◌, ◌*◌, ◌%◌, ◌≤◌, ◌++◌, length, drop};
 ghost use Rattle.draws.specs.{drawn, upper_of, kind_from, step_from, has_two, step_drawn, seed_after, steps_drawn, records_of, bytes_drawn, most_steps, draw_answer, draw_buffer};
 ghost use Rattle.lines.specs.Text.{pasted};
@@ -11,7 +13,7 @@ use protocol::{Setup, Step};
 const MOST_STEPS: u64 = 7000;
 
 // A step that was drawn, and the seed after it.
-#[derive(Drop)]
+#[derive(Clone, Copy)]
 struct Drawing {
     pub step: Step,
     pub seed: u32,

@@ -1,5 +1,7 @@
 // Tries the stored examples: `index` names them, NAME.records is run, and NAME.lines is what another model prints for it. The listing is also run cut at each of
 // its bytes, against listing-cuts.lines. Names of examples that differ are printed, and last how many were tried and how many differ.
+#![tactic(auto)]
+
 ghost use Rattle.std.specs.Prelude.{◌≤◌, length};
 
 use libc::STDOUT_FILENO;

@@ -1,4 +1,6 @@
 // A replica joins the chain while traffic runs (document 02, Req 04). Until its sixteenth copy it stands behind the live replicas in the order.
+#![tactic(auto)]
+
 ghost use Rattle.std.specs.Prelude.{◌≡◌, ◌+◌, ◌*◌, ◌<◌};
 ghost use Rattle.joins.specs.{is_joining, copies_made, newcomer, newcomer_number, last_number, is_full, beginning, copied_object, copied, promoted, one_copy, copying, is_copied, is_newcomer, handing_on, join_ended, without};
 

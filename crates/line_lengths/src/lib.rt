@@ -1,4 +1,6 @@
 // How long each part of a line is, and a whole line. crates/lines puts them into a buffer.
+#![tactic(auto)]
+
 ghost use Rattle.std.specs.Prelude.{◌≡◌, ◌≤◌, length};
 ghost use Rattle.line_lengths.specs.Lines.{places, long_places, joined, ok_start, finish_end, context_end, no_line, line_of};
 

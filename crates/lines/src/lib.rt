@@ -1,4 +1,6 @@
 // Document 01, 'What the run program prints', with document 02's Req 01 and Req 02: the bytes of one line, put into a lent buffer.
+#![tactic(auto)]
+
 ghost use Rattle.std.specs.Prelude.{◌≡◌, [], ◌∷◌, ◌+◌, ◌≤◌, length, leb};
 ghost use Rattle.protocol.specs.declared.Answer.TheVariants.{Done, Finished, FinishedContext};
 ghost use Rattle.line_lengths.specs.Lines.{digits, decimal, long_decimal, ok_start, freshness_end, finish_end, joined, context_end, no_line, line_of};

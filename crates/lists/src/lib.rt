@@ -1,1 +1,3 @@
 // Theorems about lists, for the crates above: no code.
+#![tactic(auto)]
+

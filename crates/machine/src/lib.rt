@@ -1,5 +1,7 @@
 // The step machine of document 01: one step at a time, over four lent things (the switch's numbers, the replicas' store, the open operations, the waiting
 // packets) and the count of those that wait.
+#![tactic(auto)]
+
 ghost use Rattle.std.specs.Prelude.{◌≡◌};
 ghost use Rattle.protocol.specs.Decisions.{given};
 ghost use Rattle.protocol.specs.Starts.{start_answer};
@@ -12,7 +14,7 @@ use switch::Switch;
 use waiting::{Edit, Packet};
 
 // What is decided of a step, and the stored number of counting marks then.
-#[derive(Drop)]
+#[derive(Clone, Copy)]
 struct Decided {
     answer: Answer,
     edit: Edit,

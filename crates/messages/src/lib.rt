@@ -1,4 +1,6 @@
 // Packets and the messages that they hold.
+#![tactic(auto)]
+
 ghost use Rattle.std.specs.Prelude.{◌≡◌};
 ghost use Rattle.protocol.specs.Messages.{packet_of, reply_to, completion_of, is_unstamped, is_of_context, is_context_reply, in_row};
 

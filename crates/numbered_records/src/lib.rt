@@ -1,4 +1,6 @@
 // Records from numbers.
+#![tactic(auto)]
+
 ghost use Rattle.std.specs.Prelude.{◌≡◌, ◌≤◌, length, get_or};
 ghost use Rattle.records.specs.Records.{written_at, buffer_after, written_refusal};
 ghost use Rattle.numbered_records.specs.{largest_first, largest_second, has_numbers, is_record, step_from, record_refusal, record_buffer, record_size, objects_from, context_refusal, context_buffer};

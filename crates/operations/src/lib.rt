@@ -1,4 +1,6 @@
 // The open operations: their numbers in cells that the caller lends, without a gap, how many they are, and the last number given.
+#![tactic(auto)]
+
 ghost use Rattle.std.specs.Prelude.{◌≡◌, ◌≤◌, ◌<◌};
 ghost use Rattle.operations.specs.Search.{weight_at, weighed};
 ghost use Rattle.operations.specs.{open_count, last_given, none_open, open_place, is_open, room_to_open, opening, closing};

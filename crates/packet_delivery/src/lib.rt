@@ -1,4 +1,6 @@
 // Which rule delivers a packet: crates/switch_delivery and replica_delivery have the rules, and crates/context_reads and context_answers those for reads of several objects.
+#![tactic(auto)]
+
 ghost use Rattle.std.specs.Prelude.{◌≡◌};
 ghost use Rattle.protocol.specs.Decisions.{given};
 ghost use Rattle.protocol.specs.Messages.{write_of, message_of};

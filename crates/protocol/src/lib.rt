@@ -1,5 +1,7 @@
 // What the step machine is handed, what it answers, and what it decides between: types. crates/messages has the packets that hold messages, crates/decisions the commonest decisions.
 // specs/ says what each step does.
+#![tactic(auto)]
+
 pub mod answers;
 pub mod setups;
 
@@ -9,7 +11,7 @@ use store::Write;
 use waiting::Edit;
 
 // What a start sets up: none, where there is no start record; or a chain of so many replicas (document 01, tag 32), or a quorum store of so many (document 02, Req 11, tag 33).
-#[derive(Drop)]
+#[derive(Clone, Copy)]
 pub enum Setup {
     Missing,
     Chain(u8),
@@ -17,7 +19,7 @@ pub enum Setup {
 }
 
 // Document 01, 'Steps and their records'. The fields have the widths that the records give them.
-#[derive(Drop)]
+#[derive(Clone, Copy)]
 pub enum Step {
     Start(Setup),
     BeginRead(u16),
@@ -37,7 +39,7 @@ pub enum Step {
 }
 
 // Document 01, 'Turned down': a refusal for each row of the table.
-#[derive(Drop)]
+#[derive(Clone, Copy)]
 pub enum Refusal {
     Format,
     Replicas,
@@ -63,7 +65,7 @@ pub enum Refusal {
 }
 
 // A step was done; or done, and it finished an operation with a value and what a read says of a pending write, or a read of a whole context with its values; or refused.
-#[derive(Drop)]
+#[derive(Clone, Copy)]
 pub enum Answer {
     Done,
     Finished(Operation, Value, Freshness),
@@ -73,7 +75,7 @@ pub enum Answer {
 
 // A packet by its kind: document 01, 'What delivery does'. The stamp of a normal read and of a reply is that of the pending write that the read goes round, (0,0) where
 // there is none. Four are of a read of a whole context, whose row in crates/contexts they name. An acknowledgement is of a follower, and says how many entries of the leader's log it has.
-#[derive(Drop)]
+#[derive(Clone, Copy)]
 pub enum Message {
     UnstampedWrite(Operation, Object, Value),
     SwitchRead(Operation, Object),
@@ -91,14 +93,14 @@ pub enum Message {
 }
 
 // What is decided of a step, before the waiting list is edited.
-#[derive(Drop)]
+#[derive(Clone, Copy)]
 pub struct Decision {
     pub answer: Answer,
     pub edit: Edit,
 }
 
 // What a step answers, how many packets then wait, and the stored number of counting marks.
-#[derive(Drop)]
+#[derive(Clone, Copy)]
 pub struct Stepped {
     pub answer: Answer,
     pub count: usize,

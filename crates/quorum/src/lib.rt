@@ -1,5 +1,7 @@
 // A quorum store (document 02, Req 11): a leader with followers. The leader's log is that of crates/store; every follower is sent the same items, an entry for each write that the leader logs
 // and a stamp for each that it executes, and a link is what lies between the items that a follower has taken and all that were sent.
+#![tactic(auto)]
+
 ghost use Rattle.std.specs.Prelude.{◌≡◌, ◌<◌, ◌≤◌};
 ghost use Rattle.lists.specs.{all_of};
 ghost use Rattle.store.specs.{members, entry_at};

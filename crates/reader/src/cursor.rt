@@ -5,7 +5,7 @@ ghost use Rattle.records.specs.Records.{next_at};
 use crate::next_at;
 use records::Next;
 
-#[derive(Drop)]
+#[derive(Clone, Copy)]
 pub struct Reader<'a> {
     pub input: &'a [u8],
     pub at: usize,

@@ -1,4 +1,6 @@
 // What stands at a position of one lent input. src/cursor.rt has the reader that walks it.
+#![tactic(auto)]
+
 ghost use Rattle.std.specs.Prelude.{◌≡◌, ◌+◌, ◌≤◌, ◌<◌, length};
 ghost use Rattle.records.specs.Records.{byte_at, two_at, four_at, objects_in, operation_in, step_of, record_of_kind, record_at, is_start, in_place, next_of, next_at};
 

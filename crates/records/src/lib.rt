@@ -1,4 +1,6 @@
 // The records of document 01, 'Steps and their records': their table, and steps written as bytes. crates/reader reads them.
+#![tactic(auto)]
+
 ghost use Rattle.std.specs.Prelude.{◌≡◌, ◌+◌, leb};
 
 mod kinds;
@@ -12,14 +14,14 @@ use protocol::Step;
 pub use writer::{is_writable, record_length, write_at};
 
 // What stands at a position: a record, as its step and the position past it, or none that is well formed (refusal 1).
-#[derive(Drop)]
+#[derive(Clone, Copy)]
 pub enum Found {
     Record(Step, usize),
     Malformed,
 }
 
 // What a run reads at a position: a record, the end of the input, or refusal 1.
-#[derive(Drop)]
+#[derive(Clone, Copy)]
 pub enum Next {
     Record(Step, usize),
     End,
@@ -27,7 +29,7 @@ pub enum Next {
 }
 
 // What a writer answers: how many bytes it wrote, that the buffer is shorter than the record (refusal 15), or that the step has no record (refusal 1).
-#[derive(Drop)]
+#[derive(Clone, Copy)]
 pub enum Written {
     Bytes(usize),
     TooShort,

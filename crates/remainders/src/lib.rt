@@ -1,4 +1,6 @@
 // The remainder of a choice by the number of live replicas, looked up in a table: no division (document 02, Req 05).
+#![tactic(auto)]
+
 ghost use Rattle.std.specs.Prelude.{◌≡◌, ◌%◌, ◌≤◌};
 
 mod rows;

@@ -1,4 +1,6 @@
 // The records of one input after its first: each record's step is done, and its line goes into a lent buffer.
+#![tactic(auto)]
+
 ghost use Rattle.std.specs.Prelude.{◌-◌};
 ghost use Rattle.turns.specs.Turns.{next_printed};
 ghost use Rattle.turns.specs.Promises.{turned, stands_as, Stands, one_turn};

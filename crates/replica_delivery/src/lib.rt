@@ -1,4 +1,6 @@
 // 'What delivery does', of packets to a replica, and of replies.
+#![tactic(auto)]
+
 ghost use Rattle.std.specs.Prelude.{◌≡◌, [], ◌∷◌};
 ghost use Rattle.store.specs.{stamp_at};
 ghost use Rattle.replicas.specs.Replicas.{taking};

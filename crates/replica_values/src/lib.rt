@@ -1,4 +1,6 @@
 // What a replica holds, and which replicas there are.
+#![tactic(auto)]
+
 ghost use Rattle.std.specs.Prelude.{◌≡◌};
 ghost use Rattle.store.specs.{live_count};
 ghost use Rattle.replica_values.specs.{table_for, value_of, stamp_held, newcomer_of, copies_of, chain_of, positions_told, positions_in};

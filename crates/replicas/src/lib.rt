@@ -1,5 +1,7 @@
 // The replicas: up to eight in a chain, all that they keep in a store that the caller lends, and the links between neighbours.
 // The head's applied writes are a log. Each replica has applied a front part of it, so a link holds what lies between two neighbours' parts.
+#![tactic(auto)]
+
 ghost use Rattle.std.specs.Prelude.{◌≡◌, [], ◌∷◌};
 ghost use Rattle.replicas.specs.Replicas.{linked_writes, accepts, next_position, applying, taking, pending_at, oldest, is_not_above, answers_direct};
 ghost use Rattle.replicas.specs.Visible.{visible_count};

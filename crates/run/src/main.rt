@@ -1,4 +1,6 @@
 // The run program: reads records from standard input and prints a line for each, in pieces of 64 KiB.
+#![tactic(auto)]
+
 use libc::{STDIN_FILENO, STDOUT_FILENO};
 
 fn print(input: &[u8]) {

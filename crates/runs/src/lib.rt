@@ -1,4 +1,6 @@
 // Whole runs: everything that the run program prints for an input, into one lent buffer or piece by piece.
+#![tactic(auto)]
+
 ghost use Rattle.std.specs.Prelude.{◌≡◌, true, ◌++◌, ◌<◌, length, replicate, take};
 ghost use Rattle.limits.specs as limits;
 ghost use Rattle.waiting.specs.Waiting.{blank, none_wait};
@@ -17,7 +19,7 @@ pub const PIECE: usize = 65536;
 const LAST_LINE: usize = 65389;
 
 // How a run stands after some records, the place after their lines, and the places of the packets.
-#[derive(Drop)]
+#[derive(Clone, Copy)]
 pub struct Piece {
     pub run: Run,
     pub used: usize,

@@ -1,4 +1,6 @@
 // The line of a session's last step.
+#![tactic(auto)]
+
 ghost use Rattle.std.specs.Prelude.{◌≡◌, length};
 ghost use Rattle.lines.specs.Text.{put_in};
 ghost use Rattle.session_lines.specs.{context_from, answer_from, line_for, put_bytes};

@@ -1,4 +1,6 @@
 // A session after a start or a step.
+#![tactic(auto)]
+
 ghost use Rattle.std.specs.Prelude.{◌≡◌, ◌≤◌};
 ghost use Rattle.contexts.specs.{context};
 ghost use Rattle.protocol.specs.Steps.{start_switch, start_store, start_opens};
@@ -14,7 +16,7 @@ use records::Found;
 // The answer of the last start or step: its refusal or 0; the operation that it finished, or 0; how many values that has (0, 1 or 2 to 8), and the values; what a finished
 // read says of the pending write that it went round (0 for none, 1 for old, 2 for new); how many marks count then. `waiting` is the count of waiting packets that goes into the next step.
 #[repr(C)]
-#[derive(Drop)]
+#[derive(Clone, Copy)]
 pub struct Session {
     pub refusal: u8,
     pub operation: u32,

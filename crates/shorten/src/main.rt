@@ -1,5 +1,7 @@
 // The shorten program: reads records from standard input, and writes a shorter run whose last record is refused with the same number to standard output; a refusal goes to
 // standard error.
+#![tactic(auto)]
+
 use libc::{STDERR_FILENO, STDIN_FILENO, STDOUT_FILENO};
 
 // Minus the refusal, as a line.

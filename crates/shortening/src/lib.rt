@@ -1,4 +1,6 @@
 // A shorter run whose last record is still refused with the same number (document 02, Req 09).
+#![tactic(auto)]
+
 ghost use Rattle.std.specs.Prelude.{◌≡◌, cond, [], ◌++◌, ◌+◌, ◌-◌, ◌≤◌, ◌<◌, eqb, leb, pos, neg_ℤ, length, take, drop, replicate};
 ghost use Rattle.std.proofs.Math.Seq.{paste};
 ghost use Rattle.records.specs.Records.{byte_at, next_at};
@@ -17,7 +19,7 @@ const LONGEST: usize = 9728;
 const LINES: usize = 477184;
 
 // What the run of an input meets: nothing, and so many records; or what refuses it.
-#[derive(Drop)]
+#[derive(Clone, Copy)]
 enum Met {
     Records(usize),
     Malformed,

@@ -1,4 +1,6 @@
 // An object's slots, and the tests of one slot.
+#![tactic(auto)]
+
 ghost use Rattle.std.specs.Prelude.{◌≡◌, ◌<◌};
 ghost use Rattle.slots.specs.{first_slot, second_slot, third_slot, holds_object, is_free, holds_above, is_completed};
 

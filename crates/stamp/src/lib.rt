@@ -1,4 +1,6 @@
 // Stamps: sequence numbers, compared by switch number and then by counter. Held as one number, they are compared by one test.
+#![tactic(auto)]
+
 ghost use Rattle.std.specs.Prelude.{◌≡◌};
 ghost use Rattle.stamp.specs.Stamps.{stamp_of, number_of, counter_of, is_above, larger_of};
 

@@ -1,4 +1,6 @@
 // Every step but the delivery of a packet and the beginning of an operation: crates/packet_delivery and crates/begins have those. src/quorum_steps.rt has what is done in a quorum store alone.
+#![tactic(auto)]
+
 ghost use Rattle.std.specs.Prelude.{◌≡◌, ◌<◌};
 ghost use Rattle.replicas.specs.Replicas.{applying};
 ghost use Rattle.joins.specs.{handing_on};

@@ -1,4 +1,6 @@
 // The store that the caller lends: where each thing lies in it, and how it is read and written.
+#![tactic(auto)]
+
 ghost use Rattle.std.specs.Prelude.{◌≡◌, ◌<◌};
 ghost use Rattle.stamp.specs.Stamps.{stamp_in, set_stamp};
 ghost use Rattle.store.specs.{last_number_cell, row_of, entry_cell, entry_stamp_cell, value_cell, stamp_cell, highest_of, permitted_by, applied_by, entry_at, value_at, stamp_at, logged, tabled, raised, is_quorum};
@@ -40,7 +42,7 @@ pub const ITEMS: usize = 25276;
 pub const CELLS: usize = 25340;
 
 // A write of the log, with the stamp that the switch gave it.
-#[derive(Drop)]
+#[derive(Clone, Copy)]
 pub struct Write {
     pub operation: Operation,
     pub object: Object,

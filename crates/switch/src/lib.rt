@@ -1,5 +1,7 @@
 // The switch: its number and counter, the last-committed stamp, the direct-reads sign, the dirty set of three stages of 16 slots, and the number of marks that count. Its numbers lie
 // in an array that the caller lends: src/cells.rt reads and changes them there. Here is the switch as a value.
+#![tactic(auto)]
+
 ghost use Rattle.std.specs.Prelude.{◌≡◌};
 ghost use Rattle.switch.specs.DirtySet.{completed, new_switch};
 ghost use Rattle.switch.specs.Values.{switch_of, marked_switch};
@@ -28,13 +30,13 @@ pub const MARKS: usize = 149;
 pub const CELLS: usize = 150;
 
 // The whole switch, slots included.
-#[derive(Drop)]
+#[derive(Clone, Copy)]
 pub struct Switch {
     pub cells: [u32; CELLS],
 }
 
 // The switch after an object was to be marked, and the stamp that the write got: (0,0) where it is dropped.
-#[derive(Drop)]
+#[derive(Clone, Copy)]
 pub struct Marked {
     pub stamp: Stamp,
     pub state: Switch,

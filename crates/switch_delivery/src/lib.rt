@@ -1,4 +1,6 @@
 // 'What delivery does', of packets to the switch.
+#![tactic(auto)]
+
 ghost use Rattle.std.specs.Prelude.{◌≡◌};
 ghost use Rattle.protocol.specs.Delivery.{stamping, unstamped_write, switch_read, completion};
 

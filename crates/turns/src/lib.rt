@@ -1,4 +1,6 @@
 // The run of one input, record by record: what is read, and the line that its step gives. crates/replay does the steps.
+#![tactic(auto)]
+
 ghost use Rattle.std.specs.Prelude.{◌≡◌, ℕ, ◌-◌, List, length};
 ghost use Rattle.waiting.specs.declared.Packet.{Packet};
 ghost use Rattle.waiting.specs.Waiting.{none_wait};
@@ -19,7 +21,7 @@ pub const LAST_PLACE: usize = 18446744073709551615;
 
 // How a run stands between two records; the machine is lent, and `count` of its packets wait. `at` is where the next record begins, `number` its number, and
 // `left` bounds the records that follow.
-#[derive(Drop)]
+#[derive(Clone, Copy)]
 pub struct Run {
     pub count: usize,
     pub at: usize,
@@ -29,14 +31,14 @@ pub struct Run {
 }
 
 // How a run stands after a record, and the place after its line.
-#[derive(Drop)]
+#[derive(Clone, Copy)]
 pub struct Ran {
     pub run: Run,
     pub used: usize,
 }
 
 // What is read, and the step that the machine is handed.
-#[derive(Drop)]
+#[derive(Clone, Copy)]
 pub struct Turn {
     pub found: Next,
     pub step: Step,

@@ -1,6 +1,3 @@
 -- The laws of the waiting list, and what walks over it share.
 pub mod Laws
 pub mod Plans
-pub mod Parts
-pub mod Again
-pub mod Lent

@@ -1,5 +1,7 @@
 // The waiting list: packets, oldest first, in a slice that the caller lends, with a count; and an edit that says what a step does to it. Nothing here
 // decides a step.
+#![tactic(auto)]
+
 ghost use Rattle.std.specs.Prelude.{◌≡◌, cond, ◌-◌, ◌≤◌, length, set};
 ghost use Rattle.lists.specs.{moves};
 ghost use Rattle.waiting.specs.Waiting.{blank, waiting_list, held_in, takes_out, fits, look_at, edited};
@@ -9,7 +11,7 @@ use limits::{Number, Object, Operation, Replica, Stamp, Value, WAITING};
 
 // A packet of any kind: the machine above says which kinds there are and which fields each uses. 24 bytes, no padding.
 #[repr(C)]
-#[derive(Drop)]
+#[derive(Clone, Copy)]
 pub struct Packet {
     pub kind: u8,
     pub replica: Replica,
@@ -21,7 +23,7 @@ pub struct Packet {
 }
 
 // What a step does to the list: the packet at `at` goes out if `take` says so, then `add` of the two packets come to the end.
-#[derive(Drop)]
+#[derive(Clone, Copy)]
 pub struct Edit {
     pub take: bool,
     pub at: usize,
@@ -32,7 +34,7 @@ pub struct Edit {
 
 // An edit place by place: the packets after place `from`, up to place `last`, move down one place, the first new packet goes to `place`, the second to
 // `next`, and `count` then wait. A place past the end of the slice takes none.
-#[derive(Drop)]
+#[derive(Clone, Copy)]
 struct Plan {
     from: usize,
     last: usize,

@@ -1,4 +1,6 @@
 // The model for callers in C and Rust: a session and lent memory, records and lines. bindings/c/woldladle.h says where each thing lies.
+#![tactic(auto)]
+
 ghost use Rattle.std.specs.Prelude.{◌≡◌};
 ghost use Rattle.session_lines.specs.{line_for, put_bytes};
 ghost use Rattle.numbered_records.specs.{record_refusal, record_buffer, context_refusal, context_buffer, record_size};

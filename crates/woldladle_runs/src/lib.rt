@@ -1,4 +1,6 @@
 // Whole runs for callers in C and Rust: bindings/c/woldladle.h.
+#![tactic(auto)]
+
 ghost use Rattle.std.specs.Prelude.{◌≡◌, length};
 ghost use Rattle.draws.specs.{draw_answer, draw_buffer};
 ghost use Rattle.runs.specs.Runs.{lines_of, printed, holding};

@@ -1,0 +1,7 @@
+use Rattle.chain.specs.{empty_store, empty_cells}
+use borrow.Author.Rules.{rules}
+use Rattle.chain.proofs.clear.Goals as goal
+
+pub returns : goal.returns
+unfolding empty_store empty_cells
+returns c = simp c.number.ensures

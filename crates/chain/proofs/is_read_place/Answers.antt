@@ -1,0 +1,14 @@
+use mathlib.Core.Path.{sym, ◌∙◌}
+use native.Mathlib.Omega.{arith}
+use Rattle.chain.proofs.Numbers.{read_place_none, read_place_last, read_place_first}
+use borrow.Author.Rules.{rules}
+use Rattle.chain.proofs.is_read_place.Goals as goal
+
+pub returns-then-is_quorum : goal.returns-then-is_quorum
+returns-then-is_quorum c = sym (read_place_first _ (sym c.is_quorum.ensures ∙ c.if-is_quorum.true) _)
+
+pub returns-then-n-eq0 : goal.returns-then-n-eq0
+returns-then-n-eq0 c = sym (read_place_none _ (sym c.is_quorum.ensures ∙ c.if-is_quorum.false) _ (omega (arith, c.count-n.ensures.0)))
+
+pub returns : goal.returns
+returns c = rw c.count-n.ensures.0 (sym (read_place_last _ (sym c.is_quorum.ensures ∙ c.if-is_quorum.false) _ (omega (arith, c.count-n.ensures.0))))

@@ -1,0 +1,17 @@
+-- The loop's invariant: the first i replicas are numbered.
+use mathlib.Core.Path.{◌≡◌, refl, sym, ap, ◌∙◌}
+use mathlib.Core.List.{List}
+use Prim.Native.Nat.{ℕ, ◌+◌, ◌-◌, ◌*◌, ◌≤◌}
+use native.Mathlib.Numerals.{add-one}
+use native.Mathlib.Omega.{arith}
+use lib.ListN.{set}
+use borrow.Author.Rules.{rules}
+use Rattle.store.specs.{permit_cell}
+use Rattle.chain.specs.{numbered}
+use Rattle.chain.proofs.number.Given as goal
+
+abbrev pub invariant-loop-i : goal.invariant-loop-i
+invariant-loop-i l = (l.cells ≡ numbered l.initial.cells l.i) × (l.i ≤ 8)
+
+abbrev pub decreases-loop-i : goal.decreases-loop-i
+decreases-loop-i l = 8 - l.i

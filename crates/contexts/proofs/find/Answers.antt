@@ -1,0 +1,24 @@
+use mathlib.Core.Path.{◌≡◌, sym, ◌∙◌}
+use Prim.Native.Nat.{ℕ, ◌-◌, ◌≤◌, ◌<◌}
+use native.Mathlib.Omega.{arith}
+use borrow.Author.Count.{below_more, below_none}
+use Rattle.contexts.specs.{place_of, size_of}
+use Rattle.contexts.proofs.Places.{place_first, place_none}
+use borrow.Author.Rules.{rules}
+use Rattle.contexts.proofs.find.Goals as goal
+
+pub loop-i-init : goal.loop-i-init
+loop-i-init c = (omega arith, c.size-n.ensures.0, c.size-n.ensures.1, below_none _)
+
+pub returns-then-place-x : goal.returns-then-place-x
+returns-then-place-x c =
+    let turn = c.loop-i in
+    sym (place_first _ _ turn.i (omega arith) turn.invariant.3 (sym c.place.ensures ∙ c.if-place-x.true))
+
+pub loop-i-preserved : goal.loop-i-preserved
+loop-i-preserved c =
+    let turn = c.loop-i in
+    (omega arith, turn.invariant.1, turn.invariant.2, below_more _ _ turn.invariant.3 (λ e. c.if-place-x.false (c.place.ensures ∙ e)))
+
+pub returns : goal.returns
+returns c = let done = c.loop-i in done.invariant.1 ∙ sym (place_none _ _ (λ k b. done.invariant.3 k (omega arith)))

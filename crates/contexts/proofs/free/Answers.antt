@@ -1,0 +1,7 @@
+use Rattle.contexts.specs.{freeing}
+use borrow.Author.Rules.{rules}
+use Rattle.contexts.proofs.free.Goals as goal
+
+pub returns : goal.returns
+unfolding freeing
+returns c = simp (← c.row_cell-i.ensures.0)

@@ -1,0 +1,7 @@
+use Rattle.contexts.specs.{size_at}
+use borrow.Author.Rules.{rules}
+use Rattle.contexts.proofs.size_at.Goals as goal
+
+pub returns : goal.returns
+unfolding size_at
+returns c = simp (← c.row_cell-i.ensures.0)

@@ -1,0 +1,7 @@
+use Rattle.joins.specs.{beginning}
+use borrow.Author.Rules.{rules}
+use Rattle.joins.proofs.begin.Goals as goal
+
+pub returns : goal.returns
+unfolding beginning
+returns c = simp (← c.last_number.ensures, ← c.newcomer-table.ensures, ← c.count-n.ensures.0)

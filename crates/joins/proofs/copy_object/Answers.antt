@@ -1,0 +1,7 @@
+use Rattle.joins.specs.{copied_object}
+use borrow.Author.Rules.{rules}
+use Rattle.joins.proofs.copy_object.Goals as goal
+
+pub returns : goal.returns
+unfolding copied_object
+returns c = simp (← c.read_value-value.ensures, ← c.read_stamp-stamp.ensures, ← c.put_write.ensures)

@@ -1,0 +1,7 @@
+use Rattle.operations.specs.{room_to_open}
+use borrow.Author.Rules.{rules}
+use Rattle.operations.proofs.has_room.Goals as goal
+
+pub returns : goal.returns
+unfolding room_to_open
+returns c = simp c.count.ensures.0

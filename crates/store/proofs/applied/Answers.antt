@@ -1,0 +1,7 @@
+use Rattle.store.specs.{applied_by}
+use borrow.Author.Rules.{rules}
+use Rattle.store.proofs.applied.Goals as goal
+
+pub returns : goal.returns
+unfolding applied_by
+returns c = simp (← c.row-i.ensures.0)

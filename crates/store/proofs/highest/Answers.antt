@@ -1,0 +1,7 @@
+use Rattle.store.specs.{highest_of}
+use borrow.Author.Rules.{rules}
+use Rattle.store.proofs.highest.Goals as goal
+
+pub returns : goal.returns
+unfolding highest_of
+returns c = simp (← c.row.ensures.0, ← c.stamp_in.ensures)

@@ -1,0 +1,7 @@
+use Rattle.store.specs.{permitted_by}
+use borrow.Author.Rules.{rules}
+use Rattle.store.proofs.permitted.Goals as goal
+
+pub returns : goal.returns
+unfolding permitted_by
+returns c = simp (← c.row-i.ensures.0)

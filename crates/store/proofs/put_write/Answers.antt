@@ -1,0 +1,7 @@
+use Rattle.store.specs.{tabled}
+use borrow.Author.Rules.{rules}
+use Rattle.store.proofs.put_write.Goals as goal
+
+pub returns : goal.returns
+unfolding tabled
+returns c = simp (← c.value_cell-i.ensures.0, ← c.stamp_cell-j.ensures.0, ← c.set_stamp.ensures)

@@ -1,0 +1,7 @@
+use Rattle.store.specs.{raised}
+use borrow.Author.Rules.{rules}
+use Rattle.store.proofs.raise.Goals as goal
+
+pub returns : goal.returns
+unfolding raised
+returns c = simp (← c.row-i.ensures.0, ← c.set_stamp.ensures)

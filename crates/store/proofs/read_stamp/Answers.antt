@@ -1,0 +1,7 @@
+use Rattle.store.specs.{stamp_at}
+use borrow.Author.Rules.{rules}
+use Rattle.store.proofs.read_stamp.Goals as goal
+
+pub returns : goal.returns
+unfolding stamp_at
+returns c = simp (← c.stamp_cell-i.ensures.0, ← c.stamp_in.ensures)

@@ -1,0 +1,7 @@
+use Rattle.store.specs.{value_at}
+use borrow.Author.Rules.{rules}
+use Rattle.store.proofs.read_value.Goals as goal
+
+pub returns : goal.returns
+unfolding value_at
+returns c = simp (← c.value_cell-i.ensures.0)

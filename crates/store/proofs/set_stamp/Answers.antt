@@ -1,0 +1,7 @@
+use Rattle.stamp.specs.Stamps.{set_stamp}
+use borrow.Author.Rules.{rules}
+use Rattle.store.proofs.set_stamp.Goals as goal
+
+pub returns : goal.returns
+unfolding set_stamp
+returns c = simp (c.upper-upper.ensures, c.lower-lower.ensures)

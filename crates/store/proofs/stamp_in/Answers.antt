@@ -1,0 +1,7 @@
+use Rattle.stamp.specs.Stamps.{stamp_in}
+use borrow.Author.Rules.{rules}
+use Rattle.store.proofs.stamp_in.Goals as goal
+
+pub returns : goal.returns
+unfolding stamp_in
+returns c = c.joined.ensures

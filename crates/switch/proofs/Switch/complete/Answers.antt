@@ -1,0 +1,5 @@
+use borrow.Author.Rules.{rules}
+use Rattle.switch.proofs.Switch.complete.Goals as goal
+
+pub returns : goal.returns
+returns c = simp (← c.complete.ensures)

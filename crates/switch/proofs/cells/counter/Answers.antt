@@ -1,0 +1,8 @@
+use mathlib.Core.Path.{refl}
+use Rattle.switch.specs.Numbers.{counter_in}
+use borrow.Author.Rules.{rules}
+use Rattle.switch.proofs.cells.counter.Goals as goal
+
+pub returns : goal.returns
+unfolding counter_in
+returns c = refl

@@ -1,0 +1,8 @@
+use mathlib.Core.Path.{refl}
+use Rattle.switch.specs.Numbers.{number_in}
+use borrow.Author.Rules.{rules}
+use Rattle.switch.proofs.cells.number.Goals as goal
+
+pub returns : goal.returns
+unfolding number_in
+returns c = refl

@@ -1,0 +1,5 @@
+use borrow.Author.Rules.{rules}
+use Rattle.switch.proofs.cells.recount.Goals as goal
+
+pub returns : goal.returns
+returns c = simp (← c.count-marks.ensures)

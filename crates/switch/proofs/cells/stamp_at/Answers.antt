@@ -1,0 +1,7 @@
+use Rattle.switch.specs.Numbers.{slot_stamp}
+use borrow.Author.Rules.{rules}
+use Rattle.switch.proofs.cells.stamp_at.Goals as goal
+
+pub returns : goal.returns
+unfolding slot_stamp
+returns c = c.stamp_in.ensures

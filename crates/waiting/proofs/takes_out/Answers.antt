@@ -1,0 +1,11 @@
+use Rattle.waiting.specs.Waiting.{takes_out}
+use borrow.Author.Rules.{rules}
+use Rattle.waiting.proofs.takes_out.Goals as goal
+
+pub returns-then-e : goal.returns-then-e
+unfolding takes_out
+returns-then-e c = simp (c.if-e.true, ← c.held.ensures.0)
+
+pub returns : goal.returns
+unfolding takes_out
+returns c = simp c.if-e.false
