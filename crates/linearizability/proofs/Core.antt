@@ -16,7 +16,7 @@ use Rattle.history.proofs.Lists.{here, there, in_left, in_insert, inserted}
 use Rattle.history.proofs.Entries.{Entry, read_entry, New, Unfinished, InOrder}
 use Rattle.history.proofs.Growth.{begun_at}
 use Rattle.history.proofs.Readable.{Readable, placed, readable_now, readable_forget, readable_begin, readable_visible, readable_finish, readable_placed}
-use Rattle.log.proofs.Log.{values, stamps, top, Rising, top_append, behind_value, below_top}
+use Rattle.write_log.proofs.Log.{values, stamps, top, Rising, top_append, behind_value, below_top}
 use Rattle.limits.specs as limits
 use Rattle.contexts.specs.{is_count, size_at, context_at}
 use Rattle.contexts.proofs.Rows.{Apart}

@@ -36,8 +36,8 @@ use Rattle.protocol.specs.Decisions.{Outcome, switched, opened, keeping, changin
 use Rattle.protocol.specs.Contexts.{dropping_row, answering_context}
 use Rattle.protocol.specs.Delivery.{reply}
 use Rattle.protocol.specs.Steps.{Machine, machine, given_by, sending}
-use Rattle.log.proofs.Log.{values, top}
-use Rattle.log.proofs.Holds.{Small}
+use Rattle.write_log.proofs.Log.{values, top}
+use Rattle.write_log.proofs.Holds.{Small}
 use Rattle.linearizability.proofs.Visible.{shows}
 use Rattle.linearizability.proofs.Logged.{Logged, logged_show, slice_is, slice_rising, slice_issued, slice_chain}
 use Rattle.protocol.proofs.Effects.{Names}

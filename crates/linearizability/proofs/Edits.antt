@@ -41,9 +41,9 @@ use Rattle.protocol.specs.Steps.{Machine, given_by, position_of, is_malformed, d
 use Rattle.protocol.specs.Roles.{role_of}
 use Rattle.protocol.specs.Answers.{no_freshness}
 use Rattle.protocol.proofs.Effects.{takes_as, Oldest, EditEffect, edits_nothing, takes_out_lem, turns_into, answers_write, adds_new, adds_copy, sends_executed, sends_write, packet_at, step_effect}
-use Rattle.log.proofs.Tables.{table_pending}
-use Rattle.log.proofs.Holds.{no_write}
-use Rattle.log.proofs.Leader.{next_there, executed_entry}
+use Rattle.write_log.proofs.Tables.{table_pending}
+use Rattle.write_log.proofs.Holds.{no_write}
+use Rattle.write_log.proofs.Leader.{next_there, executed_entry}
 use Rattle.linearizability.proofs.Order.{in_drop}
 use Rattle.linearizability.proofs.Waits.{room}
 use Rattle.linearizability.proofs.Invariant.{chain_held, quorum_held, Good, done, refused_stays}

@@ -33,7 +33,7 @@ use Rattle.protocol.specs.Delivery.{freshness}
 use Rattle.protocol.specs.Steps.{Machine, answer_to, after, started}
 use Rattle.protocol.proofs.Finished.{FinishedBy, finished_by_reply}
 use Rattle.protocol.proofs.Freshness.{old_below, new_from}
-use Rattle.log.proofs.Log.{stamps}
+use Rattle.write_log.proofs.Log.{stamps}
 use Rattle.linearizability.specs.Run.{noted, history_from, history_of}
 use Rattle.linearizability.proofs.Members.{has}
 use Rattle.linearizability.proofs.Visible.{entry, shows, WritesFrom, Wrote, visible_wrote, visible_unwritten}

@@ -17,14 +17,14 @@ use Rattle.protocol.specs.Starts.{start_refused}
 use Rattle.protocol.specs.Roles.{Role}
 use Rattle.protocol.specs.Steps.{Machine, after}
 use Rattle.protocol.proofs.Effects.{StoreEffect, store_kept, takes, takes_as_tail, applies, applies_as_tail, permits, removes, joins, copies, leader_logs, leader_hears, follower_logs, follower_executes, leader_executes, effect}
-use Rattle.log.proofs.Places.{joining_set, last_number_same, places_applying, places_permitting, places_trans}
+use Rattle.write_log.proofs.Places.{joining_set, last_number_same, places_applying, places_permitting, places_trans}
 use Rattle.quorum.specs.{next_entry}
-use Rattle.log.proofs.QuorumHolds.{places_counted, places_acknowledging, places_logging, places_executing}
-use Rattle.log.proofs.Joins.{not_full, last_beginning}
-use Rattle.log.proofs.Beside.{places_handing}
-use Rattle.log.proofs.Taken.{places_taking}
-use Rattle.log.proofs.Joined.{last_copying}
-use Rattle.log.proofs.Without.{last_without}
+use Rattle.write_log.proofs.QuorumHolds.{places_counted, places_acknowledging, places_logging, places_executing}
+use Rattle.write_log.proofs.Joins.{not_full, last_beginning}
+use Rattle.write_log.proofs.Beside.{places_handing}
+use Rattle.write_log.proofs.Taken.{places_taking}
+use Rattle.write_log.proofs.Joined.{last_copying}
+use Rattle.write_log.proofs.Without.{last_without}
 use Rattle.linearizability.proofs.Waits.{messages}
 use Rattle.linearizability.proofs.Invariant.{addressee, ReplicasHold, chain_held, quorum_held}
 use Rattle.linearizability.proofs.Replicas.{in_places}

@@ -37,10 +37,10 @@ use Rattle.protocol.specs.declared.Refusal.{Refusal}
 use Rattle.protocol.specs.declared.Step.{Step}
 use Rattle.protocol.specs.Decisions.{Outcome, keeping, refusing}
 use Rattle.protocol.specs.Steps.{Machine, machine, given_by}
-use Rattle.log.proofs.Shows.{Shows}
-use Rattle.log.proofs.Places.{AtHead}
-use Rattle.log.proofs.Joined.{JoinInvariant}
-use Rattle.log.proofs.QuorumHolds.{QuorumHolds}
+use Rattle.write_log.proofs.Shows.{Shows}
+use Rattle.write_log.proofs.Places.{AtHead}
+use Rattle.write_log.proofs.Joined.{JoinInvariant}
+use Rattle.write_log.proofs.QuorumHolds.{QuorumHolds}
 use Rattle.protocol.specs.Roles.{Role, Reads, Writes, Delivers, Loses, Repeats, GivesUp, Removes, Copies, Other, role_of}
 use Rattle.protocol.proofs.Effects.{Sort, Unstamped, Stamped, OfRow, Acknowledges, Plain, sort_of}
 use Rattle.linearizability.specs.Run.{begun_count, noted}

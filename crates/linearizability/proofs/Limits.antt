@@ -28,11 +28,11 @@ use Rattle.protocol.specs.Starts.{start_refused}
 use Rattle.protocol.specs.declared.Message.TheVariants.{UnstampedWrite, StampedWrite}
 use Rattle.protocol.specs.declared.Step.{Step}
 use Rattle.protocol.specs.Steps.{Machine, after, stepped_by, started}
-use Rattle.log.proofs.Log.{top}
-use Rattle.log.proofs.Shows.{applied_between, head_highest, linked_is}
-use Rattle.log.proofs.Tables.{at_head_first}
-use Rattle.log.proofs.Quorum.{executed_low}
-use Rattle.log.proofs.QuorumHolds.{QuorumHolds}
+use Rattle.write_log.proofs.Log.{top}
+use Rattle.write_log.proofs.Shows.{applied_between, head_highest, linked_is}
+use Rattle.write_log.proofs.Tables.{at_head_first}
+use Rattle.write_log.proofs.Quorum.{executed_low}
+use Rattle.write_log.proofs.QuorumHolds.{QuorumHolds}
 use Rattle.linearizability.specs.Run.{history_from, history_of}
 use Rattle.linearizability.proofs.Packets.{unstamped, unstamped_in}
 use Rattle.linearizability.proofs.Bounds.{log_bounded}

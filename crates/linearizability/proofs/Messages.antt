@@ -37,8 +37,8 @@ use Rattle.protocol.specs.Contexts.{context_read, direct_context, normal_context
 use Rattle.protocol.specs.Delivery.{stamping, unstamped_write, switch_read, chain_write, leader_write, stamped_write, acknowledgement, direct_read, freshness, normal_read, completion, reply, delivered_message}
 use Rattle.protocol.specs.Steps.{Machine, given_by}
 use Rattle.protocol.proofs.Freshness.{new_from}
-use Rattle.log.proofs.Log.{stamps}
-use Rattle.log.proofs.Tables.{at_head_first, table_not_tail}
+use Rattle.write_log.proofs.Log.{stamps}
+use Rattle.write_log.proofs.Tables.{at_head_first, table_not_tail}
 use Rattle.linearizability.proofs.Logged.{logged_stamp}
 use Rattle.linearizability.proofs.Packets.{row_numbers, Direct}
 use Rattle.linearizability.proofs.Core.{core_normal, context_now, core_passes, core_commit, core_stamp}

@@ -20,10 +20,10 @@ use Rattle.protocol.specs.declared.Step.{Step}
 use Rattle.protocol.specs.declared.Step.TheVariants.{Join, Copy}
 use Rattle.protocol.specs.Decisions.{Outcome, Stored, changing_store, refusing}
 use Rattle.protocol.specs.Steps.{Machine, given_by, outcome_of, joining, copying_on, decided, is_malformed, decided_in, answer_to, after}
-use Rattle.log.proofs.Joins.{not_full, newcomer_beginning, last_beginning}
-use Rattle.log.proofs.Places.{joining_set}
-use Rattle.log.proofs.NewTail.{live_more, tail_newcomer, tail_newcomer_number, tail_value, tail_stamp, tail_highest, tail_permitted}
-use Rattle.log.proofs.Links.{link_copying, link_newcomer}
+use Rattle.write_log.proofs.Joins.{not_full, newcomer_beginning, last_beginning}
+use Rattle.write_log.proofs.Places.{joining_set}
+use Rattle.write_log.proofs.NewTail.{live_more, tail_newcomer, tail_newcomer_number, tail_value, tail_stamp, tail_highest, tail_permitted}
+use Rattle.write_log.proofs.Links.{link_copying, link_newcomer}
 use Rattle.linearizability.proofs.Invariant.{ChainHolds}
 use Rattle.linearizability.proofs.Replicas.{in_places}
 use Rattle.linearizability.proofs.Limits.{good_run, held_run, machine_of}

@@ -24,10 +24,10 @@ use Rattle.protocol.specs.Starts.{start_refused}
 use Rattle.protocol.proofs.Refusals.{start_accepted, quorum_accepted}
 use Rattle.protocol.specs.declared.Step.{Step}
 use Rattle.protocol.specs.Steps.{Machine, machine, answer_to, after, new_store, started}
-use Rattle.log.proofs.Shows.{shows_start}
-use Rattle.log.proofs.Joined.{joined_start}
-use Rattle.log.proofs.StoreKind.{kind_start}
-use Rattle.log.proofs.QuorumHolds.{quorum_holds_start}
+use Rattle.write_log.proofs.Shows.{shows_start}
+use Rattle.write_log.proofs.Joined.{joined_start}
+use Rattle.write_log.proofs.StoreKind.{kind_start}
+use Rattle.write_log.proofs.QuorumHolds.{quorum_holds_start}
 use Rattle.linearizability.specs.Run.{noted, history_from, history_of}
 use Rattle.linearizability.proofs.Visible.{none_shown}
 use Rattle.linearizability.proofs.Logged.{logged_start}

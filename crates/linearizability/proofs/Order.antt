@@ -16,7 +16,7 @@ use Rattle.history.proofs.Growth.{older, begun_not_finished, begun_at, unfinishe
 use Rattle.history.proofs.Readable.{Readable, placed}
 use Rattle.history.proofs.Place.{with_read, readable_last}
 use Rattle.history.proofs.Claim.{numbers, in_numbers, of_numbers}
-use Rattle.log.proofs.Log.{top, Rising}
+use Rattle.write_log.proofs.Log.{top, Rising}
 use Rattle.store.specs.declared.Write.{Write}
 use Rattle.protocol.specs.Answers.{no_freshness}
 use Rattle.protocol.specs.declared.Message.{Message}

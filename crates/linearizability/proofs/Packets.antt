@@ -12,7 +12,7 @@ use Rattle.history.proofs.Lists.{here, there, no_member, only-member, cases_cons
 use Rattle.history.proofs.Entries.{Entry, InOrder}
 use Rattle.history.proofs.Growth.{begun_at}
 use Rattle.history.proofs.Readable.{Readable}
-use Rattle.log.proofs.Log.{values, top}
+use Rattle.write_log.proofs.Log.{values, top}
 use Rattle.contexts.specs.declared.Context.{Context}
 use Rattle.contexts.specs.{numbers_of, is_count, size_at, context_at}
 use Rattle.contexts.proofs.Places.{count_some}

@@ -33,12 +33,12 @@ use Rattle.protocol.specs.declared.Step.TheVariants.{Advance, Tell, Execute}
 use Rattle.protocol.specs.Messages.{packet_of}
 use Rattle.protocol.specs.Decisions.{Stored, stored, changing_store, deciding, add_one, no_edit, dropping, overfull}
 use Rattle.protocol.specs.Steps.{Machine, given_by, sending, follower_advancing, executing_on, telling}
-use Rattle.log.proofs.Holds.{Small, small_append, no_write}
-use Rattle.log.proofs.Moves.{slice_one}
-use Rattle.log.proofs.Places.{Places, last_number_same, member_as, table_as, at_head_same}
-use Rattle.log.proofs.Quorum.{entries_kept}
-use Rattle.log.proofs.Leader.{logging_above, next_there, executed_entry}
-use Rattle.log.proofs.QuorumHolds.{QuorumHolds, Later, later_permitting, holds_permitting, later_acknowledging, holds_acknowledging, logs_one, later_entry, holds_entry, later_stamp, holds_stamp, later_logging, holds_logging, later_executing, holds_executing}
+use Rattle.write_log.proofs.Holds.{Small, small_append, no_write}
+use Rattle.write_log.proofs.Moves.{slice_one}
+use Rattle.write_log.proofs.Places.{Places, last_number_same, member_as, table_as, at_head_same}
+use Rattle.write_log.proofs.Quorum.{entries_kept}
+use Rattle.write_log.proofs.Leader.{logging_above, next_there, executed_entry}
+use Rattle.write_log.proofs.QuorumHolds.{QuorumHolds, Later, later_permitting, holds_permitting, later_acknowledging, holds_acknowledging, logs_one, later_entry, holds_entry, later_stamp, holds_stamp, later_logging, holds_logging, later_executing, holds_executing}
 use Rattle.linearizability.proofs.Logged.{Logged, logged_accept}
 use Rattle.linearizability.proofs.Packets.{unstamped_append}
 use Rattle.linearizability.proofs.Core.{core_add}

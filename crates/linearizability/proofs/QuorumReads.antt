@@ -21,8 +21,8 @@ use Rattle.quorum.specs.{answers_behind}
 use Rattle.protocol.specs.Answers.{no_freshness}
 use Rattle.protocol.specs.declared.Message.{Message}
 use Rattle.protocol.specs.declared.Message.TheVariants.{Reply}
-use Rattle.log.proofs.Log.{values, top}
-use Rattle.log.proofs.Quorum.{ShowsQuorum, executed_low, answers_value, answers_stamp}
+use Rattle.write_log.proofs.Log.{values, top}
+use Rattle.write_log.proofs.Quorum.{ShowsQuorum, executed_low, answers_value, answers_stamp}
 use Rattle.linearizability.proofs.Packets.{AnsweredContext, Direct}
 use Rattle.linearizability.proofs.Core.{map_same, core_behind}
 use Rattle.linearizability.proofs.Invariant.{one_chain, only, ChainCore}

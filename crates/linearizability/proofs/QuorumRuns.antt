@@ -33,12 +33,12 @@ use Rattle.protocol.specs.Roles.{Role}
 use Rattle.protocol.specs.Decisions.{Outcome, Stored, changing_store, refusing, overfull}
 use Rattle.protocol.specs.Steps.{Machine, new_store, started, given_by, outcome_of, follower_advancing, advancing, executing_on, decided, is_malformed, decided_in, answer_to, after}
 use Rattle.protocol.proofs.Effects.{StoreEffect, store_kept, takes, takes_as_tail, applies, applies_as_tail, permits, removes, joins, copies, leader_logs, leader_hears, follower_logs, follower_executes, leader_executes, effect}
-use Rattle.log.proofs.Log.{top}
-use Rattle.log.proofs.Quorum.{executed_logged, shows_entry_taken, shows_stamp_taken}
-use Rattle.log.proofs.Leader.{above_logged}
-use Rattle.log.proofs.StoreKind.{SameKind, kind_applying, kind_taking, kind_handing, kind_permitting, kind_beginning, kind_copying, kind_without, kind_counted, kind_acknowledging, kind_logging, kind_executing}
-use Rattle.log.proofs.QuorumHolds.{QuorumHolds, follower, left, logs_one}
-use Rattle.log.proofs.QuorumLinks.{link_within, link_kept, link_logging, link_executing, link_entry_taken, link_stamp_taken}
+use Rattle.write_log.proofs.Log.{top}
+use Rattle.write_log.proofs.Quorum.{executed_logged, shows_entry_taken, shows_stamp_taken}
+use Rattle.write_log.proofs.Leader.{above_logged}
+use Rattle.write_log.proofs.StoreKind.{SameKind, kind_applying, kind_taking, kind_handing, kind_permitting, kind_beginning, kind_copying, kind_without, kind_counted, kind_acknowledging, kind_logging, kind_executing}
+use Rattle.write_log.proofs.QuorumHolds.{QuorumHolds, follower, left, logs_one}
+use Rattle.write_log.proofs.QuorumLinks.{link_within, link_kept, link_logging, link_executing, link_entry_taken, link_stamp_taken}
 use Rattle.linearizability.proofs.Bounds.{log_bounded}
 use Rattle.linearizability.proofs.Logged.{logged_accept}
 use Rattle.linearizability.proofs.Waits.{messages}

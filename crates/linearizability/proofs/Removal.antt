@@ -19,7 +19,7 @@ use Rattle.protocol.specs.declared.Step.TheVariants.{Remove}
 use Rattle.protocol.specs.Starts.{start_refused}
 use Rattle.protocol.specs.Decisions.{Outcome, Stored, changing_store, refusing}
 use Rattle.protocol.specs.Steps.{Machine, given_by, outcome_of, removing, decided, is_malformed, decided_in, answer_to, after}
-use Rattle.log.proofs.Removed.{without_itself, without_head, without_between, without_others}
+use Rattle.write_log.proofs.Removed.{without_itself, without_head, without_between, without_others}
 use Rattle.linearizability.proofs.Limits.{machine_of, good_run, held_run}
 use Rattle.linearizability.proofs.Invariant.{ChainHolds}
 use Rattle.linearizability.proofs.NewTail.{refused}

@@ -22,11 +22,11 @@ use Rattle.protocol.specs.Answers.{no_freshness}
 use Rattle.protocol.specs.Reads.{answers_read}
 use Rattle.protocol.specs.declared.Message.{Message}
 use Rattle.protocol.specs.declared.Message.TheVariants.{Reply}
-use Rattle.log.proofs.Log.{values, stamps, top, same_value}
-use Rattle.log.proofs.Shows.{applied_between, read_value, read_stamp, read_tail, stamp_tail}
-use Rattle.log.proofs.Places.{Places, AtHead}
-use Rattle.log.proofs.Tables.{at_head_sent}
-use Rattle.log.proofs.QuorumHolds.{QuorumHolds}
+use Rattle.write_log.proofs.Log.{values, stamps, top, same_value}
+use Rattle.write_log.proofs.Shows.{applied_between, read_value, read_stamp, read_tail, stamp_tail}
+use Rattle.write_log.proofs.Places.{Places, AtHead}
+use Rattle.write_log.proofs.Tables.{at_head_sent}
+use Rattle.write_log.proofs.QuorumHolds.{QuorumHolds}
 use Rattle.linearizability.proofs.Logged.{Logged}
 use Rattle.linearizability.proofs.Packets.{AnsweredContext, Direct}
 use Rattle.linearizability.proofs.Core.{core_direct, context_now}

@@ -34,9 +34,9 @@ use Rattle.protocol.specs.declared.Step.{Step}
 use Rattle.protocol.specs.declared.Step.TheVariants.{GiveUp}
 use Rattle.protocol.specs.Decisions.{Outcome, Opened, changing_opens, refusing}
 use Rattle.protocol.specs.Steps.{Machine, given_by, outcome_of, giving_up, decided, is_malformed, decided_in, answer_to, after, started}
-use Rattle.log.proofs.Places.{joining_set}
-use Rattle.log.proofs.Shows.{head_place}
-use Rattle.log.proofs.Tables.{at_head_first}
+use Rattle.write_log.proofs.Places.{joining_set}
+use Rattle.write_log.proofs.Shows.{head_place}
+use Rattle.write_log.proofs.Tables.{at_head_first}
 use Rattle.linearizability.specs.Run.{noted, history_from, history_of}
 use Rattle.linearizability.proofs.Waits.{messages}
 use Rattle.linearizability.proofs.Invariant.{ReplicasHold, in_chain, in_quorum, EndsOnce, Good}

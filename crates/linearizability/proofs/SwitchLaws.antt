@@ -22,7 +22,7 @@ use Rattle.switch.proofs.Laws.{completed_number, completed_committed, completed_
 use Rattle.switch.proofs.Counted.{invariant_marked, invariant_completed, invariant_new}
 use Rattle.switch.proofs.Cover.{Covers, covers_unmarked, covers_own, covers_marked, covers_completed}
 use Rattle.store.specs.declared.Write.{Write}
-use Rattle.log.proofs.Log.{top}
+use Rattle.write_log.proofs.Log.{top}
 use Rattle.linearizability.proofs.Invariant.{SwitchHolds}
 
 -- the last of some writes has a stamp up to b if all have

@@ -25,13 +25,13 @@ use Rattle.protocol.specs.declared.Step.{Step}
 use Rattle.protocol.specs.Steps.{Machine, given_by, decided}
 use Rattle.protocol.specs.Roles.{Role, role_of}
 use Rattle.protocol.proofs.Effects.{StoreEffect, store_kept, takes, takes_as_tail, applies, applies_as_tail, permits, removes, joins, copies, leader_logs, leader_hears, follower_logs, follower_executes, leader_executes, step_effect}
-use Rattle.log.proofs.Places.{Places, SamePlaces, places_applying, places_permitting, places_trans, order_join}
-use Rattle.log.proofs.Joins.{not_full, replicas_beginning}
-use Rattle.log.proofs.Copies.{places_copied}
-use Rattle.log.proofs.Beside.{places_handing}
-use Rattle.log.proofs.Taken.{places_taking}
-use Rattle.log.proofs.StoreKind.{kind_applying, kind_taking, kind_handing, kind_permitting, kind_beginning, kind_copying, kind_counted, kind_acknowledging, kind_logging, kind_executing}
-use Rattle.log.proofs.QuorumHolds.{places_counted, places_acknowledging, places_logging, places_executing}
+use Rattle.write_log.proofs.Places.{Places, SamePlaces, places_applying, places_permitting, places_trans, order_join}
+use Rattle.write_log.proofs.Joins.{not_full, replicas_beginning}
+use Rattle.write_log.proofs.Copies.{places_copied}
+use Rattle.write_log.proofs.Beside.{places_handing}
+use Rattle.write_log.proofs.Taken.{places_taking}
+use Rattle.write_log.proofs.StoreKind.{kind_applying, kind_taking, kind_handing, kind_permitting, kind_beginning, kind_copying, kind_counted, kind_acknowledging, kind_logging, kind_executing}
+use Rattle.write_log.proofs.QuorumHolds.{places_counted, places_acknowledging, places_logging, places_executing}
 use Rattle.linearizability.proofs.Invariant.{chain_held, Good}
 use Rattle.read_bound.specs.Follow.{hinders_as, hinders}
 

@@ -1,0 +1,7 @@
+use Rattle.quorum.specs.{acknowledged_by}
+use borrow.Author.Rules.{rules}
+use Rattle.quorum.proofs.acknowledged.Goals as goal
+
+pub returns : goal.returns
+unfolding acknowledged_by
+returns c = simp (← c.row-i.ensures.0)

@@ -1,0 +1,7 @@
+use Rattle.quorum.specs.{quorum_store}
+use borrow.Author.Rules.{rules}
+use Rattle.quorum.proofs.clear.Goals as goal
+
+pub returns : goal.returns
+unfolding quorum_store
+returns c = simp c.clear.ensures

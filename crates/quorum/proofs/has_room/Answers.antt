@@ -1,0 +1,7 @@
+use Rattle.quorum.specs.{has_room}
+use borrow.Author.Rules.{rules}
+use Rattle.quorum.proofs.has_room.Goals as goal
+
+pub returns : goal.returns
+unfolding has_room
+returns c = simp (← c.linked.ensures)

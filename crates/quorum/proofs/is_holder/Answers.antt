@@ -1,0 +1,12 @@
+use borrow.Author.Tests.{eq-eqb, ne_eqb}
+use Rattle.quorum.specs.{is_holder}
+use borrow.Author.Rules.{rules}
+use Rattle.quorum.proofs.is_holder.Goals as goal
+
+pub returns-then-r-head : goal.returns-then-r-head
+unfolding is_holder
+returns-then-r-head c = simp (← c.head.ensures, eq-eqb _ _ c.if-r-head.true)
+
+pub returns : goal.returns
+unfolding is_holder
+returns c = simp (← c.head.ensures, ne_eqb _ _ c.if-r-head.false, ← c.acknowledged.ensures)

@@ -1,0 +1,7 @@
+use Rattle.quorum.specs.{items_taken}
+use borrow.Author.Rules.{rules}
+use Rattle.quorum.proofs.taken.Goals as goal
+
+pub returns : goal.returns
+unfolding items_taken
+returns c = simp (← c.logged.ensures, ← c.applied.ensures, c.wide.ensures.0, c.wide-2.ensures.0)
