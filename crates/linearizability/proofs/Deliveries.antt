@@ -177,7 +177,7 @@ module _ {m : Machine} {h : History} {es : List Entry} (g : Good m h es) {at : �
 
   pub others : (q : Message) → q ∈ rest → Placed m.store q
   unfolding rest
-  others = posted_lost {s = m.store} (front at m.waiting) msg (back at m.waiting) (subst (λ (l : List Message). (q : Message) → q ∈ l → Placed m.store q) i.split g.posted)
+  others = posted_lost m.store (front at m.waiting) msg (back at m.waiting) (subst (λ (l : List Message). (q : Message) → q ∈ l → Placed m.store q) i.split g.posted)
 
   pub fewer : counter_in m.switch + unstamped_one msg + unstamped rest ≤ last_given m.opens
   unfolding rest
@@ -207,7 +207,7 @@ module _ {m : Machine} {h : History} {es : List Entry} (g : Good m h es) {at : �
   good_passed w q issued k l p u c z =
       rw (order_stays m.store m.store es refl)
       (good_of issued g.log g.n (rest ++ q ∷ []) (taken_out_add m.waiting i q) k l g.replicas
-      (posted_add {s = m.store} rest q others p) g.books (omega (arith, c, u, fewer, unstamped_append rest (q ∷ []))) z
+      (posted_add m.store rest q others p) g.books (omega (arith, c, u, fewer, unstamped_append rest (q ∷ []))) z
       (waiting.exact_edited m.waiting _ g.exact))
 
   -- so where the switch stays
@@ -242,7 +242,7 @@ module _ {m : Machine} {h : History} {es : List Entry} (g : Good m h es) {at : �
         rw (order_stays m.store m.store es refl)
         (good_of g.issued g.log g.n (rest ++ q ∷ []) (taken_out_add m.waiting i q)
         (core_turn (front at m.waiting) msg (back at m.waiting) whole r names same q f a only held) g.logged g.replicas
-        (posted_add {s = m.store} rest q others p) (books_same open-same sized g.books)
+        (posted_add m.store rest q others p) (books_same open-same sized g.books)
         (omega (arith, fewer, same_last open-same, unstamped_append rest (q ∷ []), asks_none q a)) g.switch_holds
         (waiting.exact_edited m.waiting _ g.exact))
 

@@ -108,7 +108,7 @@ module _ {m : Machine} {h : History} {es : List Entry} (g : Good m h es) (at cho
       go (inl f) = absurd (f.1 refl)
       go (inr (x, b, was, d, wrote)) =
           let (w, i, from) = wrote refl in
-          let (r, same) = finish_read g.core o (x ∷ []) (v ∷ []) b (g.books.opened o by.is_open).1 d in
+          let (r, same) = finish_read g.core o (x ∷ []) (v ∷ []) b (g.books.opened o by.was_open).1 d in
           (x, b, w, from, subst (Ahead w (read_entry o (x ∷ []) (v ∷ []))) (sym (next_is ∙ same)) (ahead_append r.front _ (r.after_was w i) (here refl)))
 
 -- ---- every run

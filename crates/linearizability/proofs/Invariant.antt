@@ -248,11 +248,11 @@ pub chain_keeps : {s t : List ℕ} → is_quorum s ≡ false → last_number s �
 chain_keeps e last heads = record { last = last; heads = heads; acknowledged = λ q k a. untrue (sym e ∙ a.0) }
 
 -- the messages of a list that lost one, and of one that gained one
-pub posted_lost : {s : List ℕ} (a : List Message) (p : Message) (b : List Message) → ((q : Message) → q ∈ a ++ p ∷ b → Placed s q) → (q : Message) → q ∈ a ++ b → Placed s q
-posted_lost a p b f q m = f q (in_insert a p b m)
+pub posted_lost : (s : List ℕ) (a : List Message) (p : Message) (b : List Message) → ((q : Message) → q ∈ a ++ p ∷ b → Placed s q) → (q : Message) → q ∈ a ++ b → Placed s q
+posted_lost s a p b f q m = f q (in_insert a p b m)
 
-pub posted_add : {s : List ℕ} (l : List Message) (p : Message) → ((q : Message) → q ∈ l → Placed s q) → Placed s p → (q : Message) → q ∈ l ++ p ∷ [] → Placed s q
-posted_add {s} l p f h q m = elim (cases_append l m) [ inl i ↦ f q i | inr i ↦ subst (Placed s) (sym (only-member i)) h ]
+pub posted_add : (s : List ℕ) (l : List Message) (p : Message) → ((q : Message) → q ∈ l → Placed s q) → Placed s p → (q : Message) → q ∈ l ++ p ∷ [] → Placed s q
+posted_add s l p f h q m = elim (cases_append l m) [ inl i ↦ f q i | inr i ↦ subst (Placed s) (sym (only-member i)) h ]
 
 -- the next operation number is new, and not finished
 pub new_number : {m : Machine} {h : History} {es : List Entry} → Good m h es → New h (suc (begun_count h))

@@ -130,7 +130,7 @@ module _ {m : Machine} {h : History} {es : List Entry} (g : Good m h es) (k : Qu
         rw (order_stays m.store t es (executed_is s ∙ sym (executed_is k)))
         (good_of g.issued g.log g.n (messages m.waiting ++ told ∷ []) (added_one m.waiting wide g.exact told roomy)
         (core_add g.core told tt (λ o a. a) (λ o a. a)) g.logged (in_quorum s)
-        (posted_add {s = t} (messages m.waiting) told (λ q j. placed_by keeps q (g.posted q j)) (is-so, member_given s.places r is-so.1))
+        (posted_add t (messages m.waiting) told (λ q j. placed_by keeps q (g.posted q j)) (is-so, member_given s.places r is-so.1))
         g.books (omega (arith, g.counted, unstamped_append (messages m.waiting) (told ∷ []))) g.switch_holds (waiting.exact_edited m.waiting _ g.exact))
 
   pub good_follower : (r : ℕ) → waiting.Roomy m.waiting → Then (Advance r) m h es (changing_store (given_by m) (follower_advancing m.store (held m.waiting) r))

@@ -140,7 +140,7 @@ module _ {m : Machine} {h : History} {es : List Entry} (g : Good m h es) (wide :
           rw (notes, order_stays m.store m.store es refl)
           (good_of g.issued g.log g.n (messages m.waiting ++ q ∷ []) (added_one m.waiting wide g.exact q roomy)
           (core_rows core (λ p i r n. context_opening m.opens next r)) g.logged g.replicas
-          (posted_add {s = m.store} (messages m.waiting) q g.posted (asked_placed m.store isWrite next x v))
+          (posted_add m.store (messages m.waiting) q g.posted (asked_placed m.store isWrite next x v))
           (books_begin g (cond isWrite (writes x v) (reads (x ∷ []))) (in_range isWrite x v small) room left)
           (omega (arith, g.counted, unstamped_append (messages m.waiting) (q ∷ []), asked_one isWrite next x v, last_opening m.opens next g.books.open_numbers_lem.sized room))
           g.switch_holds (waiting.exact_edited m.waiting _ g.exact))
@@ -188,7 +188,7 @@ module _ {m : Machine} {h : History} {es : List Entry} (g : Good m h es) (wide :
       rw (order_stays m.store m.store es refl)
       (good_of g.issued g.log g.n (messages m.waiting ++ ContextRead number row ∷ [])
       (added_one m.waiting wide g.exact (ContextRead number row) roomy) (context_core free) g.logged g.replicas
-      (posted_add {s = m.store} (messages m.waiting) (ContextRead number row) g.posted (tt, omega arith))
+      (posted_add m.store (messages m.waiting) (ContextRead number row) g.posted (tt, omega arith))
       (books_same (opens_holding (opening m.opens number) row (context_of x)) (sized_holding (opening m.opens number) row (context_of x) sized)
       (books_begin g (reads objects) (objects_small (context_of x) small) room left))
       (omega (
@@ -302,7 +302,7 @@ module _ {m : Machine} {h : History} {es : List Entry} (g : Good m h es) (wide :
       rw (order_stays m.store m.store es refl)
       (good_of g.issued g.log g.n (messages m.waiting ++ q r ∷ [])
       (added_packet m.waiting wide g.exact (in_row packet r) roomy ∙ ap (λ (p : Message). messages m.waiting ++ p ∷ []) (holds r)) core g.logged g.replicas
-      (posted_add {s = m.store} (messages m.waiting) (q r) g.posted (family_placed family m.store was r (g.posted (q was) i)))
+      (posted_add m.store (messages m.waiting) (q r) g.posted (family_placed family m.store was r (g.posted (q was) i)))
       (books_same (opens_holding l r v) (sized_holding l r v z) g.books)
       (omega (arith, g.counted, unstamped_append (messages m.waiting) (q r ∷ []), asks_none (q r) (family_asks family r), same_last (opens_holding l r v)))
       g.switch_holds (waiting.exact_edited m.waiting _ g.exact))
@@ -333,7 +333,7 @@ module _ {m : Machine} {h : History} {es : List Entry} (g : Good m h es) (wide :
           rw (order_stays m.store m.store es refl)
           (good_of g.issued g.log g.n (messages m.waiting ++ p ∷ []) (added_packet m.waiting wide g.exact packet roomy)
           (core_add g.core p (g.core.packets.fine p i) u k) g.logged g.replicas
-          (posted_add {s = m.store} (messages m.waiting) p g.posted (g.posted p i)) g.books
+          (posted_add m.store (messages m.waiting) p g.posted (g.posted p i)) g.books
           (omega (arith, g.counted, unstamped_append (messages m.waiting) (p ∷ []), asks_none p u)) g.switch_holds
           (waiting.exact_edited m.waiting _ g.exact))
 

@@ -21,7 +21,7 @@ use Rattle.protocol.proofs.Effects.{AnswerEffect, accepted_wide, effect}
 pub record FinishedBy (m : Machine) (at choice o v f : ℕ) : Type 0 where
   pub wide : limits.waiting ≤ length m.waiting.packets
   pub inside : at < held m.waiting
-  pub is_open_lem : is_open m.opens o ≡ true
+  pub was_open : is_open m.opens o ≡ true
   pub stays : (after m (Deliver at choice)).store ≡ m.store
   pub carried : ℕ
   pub replied : message_of (look_at m.waiting.packets at) ≡ Reply o v carried f
@@ -36,7 +36,7 @@ module _ (m : Machine) (at choice : ℕ) where
   unfolding after
   finished_by_reply o v f e =
       let (d, inside, still, stays, c, replied) = finishes (Finished o v f) e in
-      record { wide = accepted_wide m (Deliver at choice) (ap is_accepted e); inside = inside; is_open_lem = still; stays = stays; carried = c; replied = replied }
+      record { wide = accepted_wide m (Deliver at choice) (ap is_accepted e); inside = inside; was_open = still; stays = stays; carried = c; replied = replied }
 
   -- so for a read of a whole context, which has 2 to 8 values
   pub context_by_reply : (o : ℕ) (v : Context) → answer_to m (Deliver at choice) ≡ FinishedContext o v → (is_open m.opens o ≡ true) × (is_count v.count ≡ true)

@@ -1,0 +1,24 @@
+use Prim.Native.Nat.{◌-◌}
+use borrow.Author.Rules.{rules}
+use Rattle.lists.proofs.Passing.{Passing, none_yet, number_passes, number_fails, all_passed}
+use Rattle.contexts.specs.{place_of, size_of, numbers_of}
+use Rattle.replicas.specs.Replicas.{is_not_above}
+use mathlib.Core.Path.{ap}
+use mathlib.Core.Bool.{not}
+use Rattle.context_answers.proofs.none_above.Goals as goal
+
+pub loop-i-init : goal.loop-i-init
+loop-i-init c = none_yet c.size-n.ensures
+
+pub returns-then-not-is_not_above : goal.returns-then-not-is_not_above
+unfolding numbers_of
+returns-then-not-is_not_above c =
+    number_fails c.loop-i.invariant c.loop-i-test.true c.place.ensures c.is_not_above.ensures (ap not c.if-not-is_not_above.true)
+
+pub loop-i-preserved : goal.loop-i-preserved
+loop-i-preserved c =
+    number_passes c.loop-i.invariant c.loop-i-test.true c.place.ensures c.is_not_above.ensures (ap not c.if-not-is_not_above.false)
+
+pub returns : goal.returns
+unfolding numbers_of
+returns c = all_passed c.loop-i.invariant c.loop-i-test.false

@@ -1,0 +1,7 @@
+use Rattle.protocol.specs.Decisions.{dropping}
+use borrow.Author.Rules.{rules}
+use Rattle.decisions.proofs.drop_packet.Goals as goal
+
+pub returns : goal.returns
+unfolding dropping
+returns c = simp (← c.take_out.ensures, c.done.ensures)
