@@ -205,7 +205,7 @@ known_after {m} g k x =
 
 pub known_reached : {m : Machine} {h : History} {es : List Entry} → Good m h es → Known m → (xs : List Step) → Known (reached m xs)
 known_reached g k [] = k
-known_reached g k (x ∷ xs) = known_reached (good_after g x) (known_after g k x) xs
+known_reached {m} {h} {es} g k (x ∷ xs) = known_reached {m = after m x} (good_after g x) (known_after g k x) xs
 
 -- nothing waits at the start
 pub known_start : (b : Setup) (row : List Packet) → Known (started b row)

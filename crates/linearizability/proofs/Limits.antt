@@ -52,7 +52,7 @@ machine_of b row xs = reached (started b row) xs
 -- every run keeps the invariant
 pub good_reached : {m : Machine} {h : History} {es : List Entry} → Good m h es → (xs : List Step) → Good (reached m xs) (history_from m h xs) (order_from m h es xs)
 good_reached g [] = g
-good_reached g (x ∷ xs) = good_reached (good_after g x) xs
+good_reached {m} {h} {es} g (x ∷ xs) = good_reached {m = after m x} (good_after g x) xs
 
 -- how many writes a live replica has applied, or executed
 applied_most : {s : List ℕ} {log : List Write} {n : ℕ} → ReplicasHold s log n → n ≤ length log → (r : ℕ) → is_live s r ≡ true → applied_by s r ≤ length log

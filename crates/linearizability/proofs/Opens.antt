@@ -187,7 +187,7 @@ module _ {m : Machine} {h : History} {es : List Entry} (g : Good m h es) {l : Li
 pub same_reached : {m : Machine} {h : History} {es : List Entry} → Good m h es → {l : List ℕ} → Same m.opens l → (xs : List Step)
     → Same (reached m xs).opens (open_from m h l xs)
 same_reached g s [] = s
-same_reached {m} {h} g {l} s (x ∷ xs) = same_reached (good_after g x) (same_changed g s (change m h l x)) xs
+same_reached {m} {h} g {l} s (x ∷ xs) = same_reached {m = after m x} (good_after g x) (same_changed g s (change m h l x)) xs
 
 -- ---- a begin while 64 are open
 

@@ -71,7 +71,7 @@ kind_of_lem {s} h (leader_executes quorum can) = kind_executing s
 kind_reached : {m : Machine} {h : History} {es : List Entry} → Good m h es → (xs : List Step) → SameKind m.store (reached m xs).store
 unfolding after
 kind_reached g [] = refl
-kind_reached {m} g (x ∷ xs) = kind_reached (good_after g x) xs ∙ kind_of_lem g.replicas (effect m x).store
+kind_reached {m} g (x ∷ xs) = kind_reached {m = after m x} (good_after g x) xs ∙ kind_of_lem g.replicas (effect m x).store
 
 -- the store of a run is of the kind of its start
 pub kind_run : (b : Setup) → start_refused b ≡ false → (row : List Packet) (xs : List Step) → is_quorum (machine_of b row xs).store ≡ is_quorum (new_store b)

@@ -256,7 +256,7 @@ covered_after {m} g k x c =
 
 covered_reached : {m : Machine} {h : History} {es : List Entry} → Good m h es → Known m → Covered m → (xs : List Step) → Covered (reached m xs)
 covered_reached g k c [] = c
-covered_reached g k c (x ∷ xs) = covered_reached (good_after g x) (known_after g k x) (covered_after g k x c) xs
+covered_reached {m} {h} {es} g k c (x ∷ xs) = covered_reached {m = after m x} (good_after g x) (known_after g k x) (covered_after g k x c) xs
 
 -- ---- there is a free row
 

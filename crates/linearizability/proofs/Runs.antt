@@ -131,7 +131,7 @@ module _ {m : Machine} {h : History} {es : List Entry} (g : Good m h es) (o : �
 shut_run : {m : Machine} {h : History} {es : List Entry} → Good m h es → (o : ℕ) → Shut m.opens o → Unfinished h o → (xs : List Step)
     → Unfinished (history_from m h xs) o
 shut_run g o s u [] = u
-shut_run {m} {h} g o s u (x ∷ xs) = let k = shut_changed g o s u (change m h [] x) in shut_run (good_after g x) o k.0 k.1 xs
+shut_run {m} {h} g o s u (x ∷ xs) = let k = shut_changed g o s u (change m h [] x) in shut_run {m = after m x} (good_after g x) o k.0 k.1 xs
 
 -- ---- an operation that was given up
 

@@ -7,7 +7,7 @@ use Prim.Native.Nat.{ℕ, suc, ◌+◌, ◌%◌, ◌≤◌, ◌<◌}
 use native.Mathlib.Numerals.{add-one}
 use native.Mathlib.Omega.{arith}
 use lib.Dec.{eqb, leb, ltb}
-use lib.ListN.{length}
+use lib.ListN.{length, take}
 use borrow.Author.Tests.{eqb-true, le-leb, leb-false, le-ltb, ltb-true, ltb-false}
 use Rattle.lists.proofs.Tests.{by_test, both}
 use Rattle.limits.specs as limits
@@ -44,7 +44,7 @@ use Rattle.linearizability.proofs.Packets.{Asks, not_free, unstamped_one, unstam
 use Rattle.linearizability.proofs.Core.{core_begin, core_add, core_join, core_rows, core_commit, core_ask}
 use Rattle.linearizability.proofs.Waits.{messages, front, back, Stands, stands_in_lem, at_position, edited_nothing, added_packet, added_one}
 use Rattle.linearizability.proofs.SwitchLaws.{holds_new}
-use Rattle.linearizability.proofs.Invariant.{Placed, InRange, Books, one_chain, ChainCore, Good, Then, order_stays, good_refused, posted_add, new_number, new_unfinished}
+use Rattle.linearizability.proofs.Invariant.{only, Placed, InRange, Books, one_chain, ChainCore, Good, Then, order_stays, good_refused, posted_add, new_number, new_unfinished}
 use Rattle.linearizability.proofs.Copies.{family_names, family_only, family_asks, family_placed, family_fine, packet_family}
 use Rattle.linearizability.proofs.Deliveries.{good_of, books_closed, books_same, good_dropped, good_freed}
 use Rattle.linearizability.proofs.Invariant.{ReplicasHold, in_chain, in_quorum}
@@ -296,7 +296,7 @@ module _ {m : Machine} {h : History} {es : List Entry} (g : Good m h es) (wide :
       let apart : (p : Message) → p ∈ messages m.waiting → (k : ℕ) → Names p k → Apart r k = λ p j k n. free_apart l k free (not_free (size_at l k) (g.core.packets.used p k j n)) in
       let core : ChainCore h es g.issued g.log g.n (messages m.waiting ++ q r ∷ []) (committed_in m.switch) (holding l r v) =
       core_join (core_rows g.core (λ p j k n. context_apart l r v k (apart p j k n))) (q r)
-      (family_fine family one_chain h es g.issued _ l (holding l r v) was r (numbers_held l r v z) (g.core.packets.fine (q was) i)) (family_asks family r)
+      (family_fine family one_chain h es g.issued (only (take g.n g.log)) l (holding l r v) was r (numbers_held l r v z) (g.core.packets.fine (q was) i)) (family_asks family r)
       (λ p j k t n o d. apart p j k n (ap (λ (y : ℕ). y % limits.contexts) (sym (family_only family r t o)) ∙ sym d))
       (λ k n. subst (λ (y : ℕ). is_count (size_at (holding l r v) y) ≡ true) (sym (family_only family r k n)) (ap is_count (size_held l r v z ∙ size_is l was) ∙ used)) in
       rw (order_stays m.store m.store es refl)

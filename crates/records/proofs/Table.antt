@@ -8,10 +8,8 @@ use native.Mathlib.Omega.{arith}
 use lib.Dec.{leb, eqb, lit<}
 use lib.ListN.{length}
 use borrow.Author.Tests.{leb-true, eqb-true, eqb-false, ne_eqb}
-use denote.Enum.Declared.{tag_of as variant_of}
-use types.Run.{OneOf, miss}
-use Rattle.protocol.specs.contracts.Step as step
 use Rattle.protocol.specs.declared.Setup.TheVariants.{Missing, Chain, Quorum}
+use Rattle.contexts.specs.declared.Objects.{Objects}
 use Rattle.protocol.specs.declared.Step.{Step}
 use Rattle.protocol.specs.declared.Step.TheVariants.{Start, BeginRead, BeginWrite, Deliver, Lose, Repeat, Advance, Replace, Tell, Remove, GiveUp, BeginContext, Join, Copy, Execute}
 use Rattle.records.specs.Records.{byte_at, two_at, four_at, two_bytes, four_bytes, no_step, kind_of_tag, tag_of, content_length, is_short_give_up, is_length, kind_of, content_of, header_of, record_of, operation_in, step_of, is_writable, AllBytes, InRange}
@@ -231,10 +229,7 @@ record_long s = omega (arith, record_size_lem s)
 
 -- ---- the variants in the table of lengths: every step but a read of a whole context
 
-abbrev variants : List ℕ
-variants = 0 ∷ 1 ∷ 2 ∷ 3 ∷ 4 ∷ 5 ∷ 6 ∷ 7 ∷ 8 ∷ 9 ∷ 10 ∷ 12 ∷ 13 ∷ 14 ∷ []
-
-pub in_table : (s : Step) → OneOf variants (variant_of step.the_type s) → (is_writable s ≡ not (eqb (kind_of s) no_step)) × (length (content_of s) ≡ content_length (kind_of s))
+pub in_table : (s : Step) → ((x : Objects) → s ≡ BeginContext x → ⊥) → (is_writable s ≡ not (eqb (kind_of s) no_step)) × (length (content_of s) ≡ content_length (kind_of s))
 unfolding two_bytes four_bytes content_length
 in_table (Start Missing) i = (refl, refl)
 in_table (Start (Chain n)) i = (refl, refl)
@@ -249,7 +244,7 @@ in_table (Replace number) i = (refl, refl)
 in_table (Tell replica) i = (refl, refl)
 in_table (Remove replica) i = (refl, refl)
 in_table (GiveUp operation) i = (refl, refl)
-in_table (BeginContext x) i = absurd (miss variants 11 tt i)
+in_table (BeginContext x) i = absurd (i x refl)
 in_table Join i = (refl, refl)
 in_table Copy i = (refl, refl)
 in_table Execute i = (refl, refl)

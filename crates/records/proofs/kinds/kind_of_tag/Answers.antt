@@ -15,28 +15,17 @@ returns-in-33 c = simp c.in-33.is
 pub returns-in-1-to-14 : goal.returns-in-1-to-14
 unfolding kind_of_tag
 returns-in-1-to-14 c =
-    let t : ℕ = c.args.tag in simp (
-      ne_eqb t 32 c.in_default-1.rest.0.1,
-      ne_eqb t 33 c.in_default-1.rest.1,
-      le-leb 1 t (omega arith),
-      le-leb t 14 (omega arith),
-    )
+    let t : ℕ = c.args.tag in
+    simp (ne_eqb t 32 (λ e. omega (arith, e)), ne_eqb t 33 (λ e. omega (arith, e)), le-leb 1 t (omega arith), le-leb t 14 (omega arith))
 
 pub returns-in_default : goal.returns-in_default
 unfolding kind_of_tag
 returns-in_default c =
-    let t : ℕ = c.args.tag in simp (
-      ne_eqb t 32 c.in_default-1.rest.0.1,
-      ne_eqb t 33 c.in_default-1.rest.1,
-      lt-leb 1 t (omega arith),
-    )
+    let t : ℕ = c.args.tag in
+    simp (ne_eqb t 32 (λ e. omega (arith, e)), ne_eqb t 33 (λ e. omega (arith, e)), lt-leb 1 t (omega arith))
 
 pub returns-in_default-2 : goal.returns-in_default-2
 unfolding kind_of_tag
 returns-in_default-2 c =
-    let t : ℕ = c.args.tag in simp (
-      ne_eqb t 32 c.in_default-1.rest.0.1,
-      ne_eqb t 33 c.in_default-1.rest.1,
-      le-leb 1 t (omega arith),
-      lt-leb t 14 (omega arith),
-    )
+    let t : ℕ = c.args.tag in
+    simp (ne_eqb t 32 (λ e. omega (arith, e)), ne_eqb t 33 (λ e. omega (arith, e)), le-leb 1 t (omega arith), lt-leb t 14 (omega arith))

@@ -12,13 +12,13 @@ returns-in-15 c = simp c.in-15.is
 pub returns-in-1-to-14 : goal.returns-in-1-to-14
 unfolding tag_of
 returns-in-1-to-14 c =
-    let k : ℕ = c.args.kind in simp (ne_eqb k 15 c.in_default-1.rest.1, le-leb 1 k (omega arith), le-leb k 14 (omega arith))
+    let k : ℕ = c.args.kind in simp (ne_eqb k 15 (λ e. omega (arith, e)), le-leb 1 k (omega arith), le-leb k 14 (omega arith))
 
 pub returns-in_default : goal.returns-in_default
 unfolding tag_of
-returns-in_default c = let k : ℕ = c.args.kind in simp (ne_eqb k 15 c.in_default-1.rest.1, lt-leb 1 k (omega arith))
+returns-in_default c = let k : ℕ = c.args.kind in simp (ne_eqb k 15 (λ e. omega (arith, e)), lt-leb 1 k (omega arith))
 
 pub returns-in_default-2 : goal.returns-in_default-2
 unfolding tag_of
 returns-in_default-2 c =
-    let k : ℕ = c.args.kind in simp (ne_eqb k 15 c.in_default-1.rest.1, le-leb 1 k (omega arith), lt-leb k 14 (omega arith))
+    let k : ℕ = c.args.kind in simp (ne_eqb k 15 (λ e. omega (arith, e)), le-leb 1 k (omega arith), lt-leb k 14 (omega arith))

@@ -9,13 +9,13 @@ use lib.Seq.{paste, paste-zero, paste-suc}
 use Rattle.records.proofs.writer.put.Goals as goal
 
 pub loop-i-init : goal.loop-i-init
-loop-i-init c = (paste-zero c.args.buf.now c.args.at c.args.t3, search rules, refl)
+loop-i-init c = (paste-zero c.args.buf.now c.args.at c.args.bytes, search rules, refl)
 
 pub loop-i-preserved : goal.loop-i-preserved
 loop-i-preserved c =
     let b₀ : List ℕ = c.args.buf.now in
     let at : ℕ = c.args.at in
-    let bytes : List ℕ = c.args.t3 in
+    let bytes : List ℕ = c.args.bytes in
     let i : ℕ = c.loop-i.i in (
       ap (λ (l : List ℕ). set l (at + i) (get_or bytes i 0)) c.loop-i.invariant.0 ∙ paste-suc b₀ at bytes i 0 (omega arith) (search rules) ∙
           ap (λ (k : ℕ). paste b₀ at bytes k) (sym (add-one i)),
@@ -26,4 +26,4 @@ loop-i-preserved c =
 pub returns : goal.returns
 returns c =
     let e : c.loop-i.i ≡ c.args.count = omega arith in
-    c.loop-i.invariant.0 ∙ ap (λ (k : ℕ). paste c.args.buf.now c.args.at c.args.t3 k) e
+    c.loop-i.invariant.0 ∙ ap (λ (k : ℕ). paste c.args.buf.now c.args.at c.args.bytes k) e

@@ -1,3 +1,6 @@
+use mathlib.Core.Path.{◌≡◌}
+use lib.ListN.{length}
+use Rattle.records.specs.Records.{content_of, content_length, kind_of}
 use Rattle.records.proofs.Table.{record_size_lem, in_table}
 use borrow.Author.Rules.{rules}
 use Rattle.records.proofs.writer.record_length.Goals as goal
@@ -7,5 +10,5 @@ returns-in-BeginContext c = simp (c.in-BeginContext.is, record_size_lem, c.objec
 
 pub returns-in_default : goal.returns-in_default
 returns-in_default c =
-    let size = (in_table c.args.step c.in_default.in_default-own.keys2).1 in
+    let size : length (content_of c.args.step) ≡ content_length (kind_of c.args.step) = (in_table c.args.step c.in_default.not-BeginContext).1 in
     simp (record_size_lem, size, c.content_length.ensures, c.kind_of.ensures)

@@ -1,0 +1,7 @@
+use Rattle.records.specs.Records.{two_at}
+use borrow.Author.Rules.{rules}
+use Rattle.reader.proofs.two_at.Goals as goal
+
+pub returns : goal.returns
+unfolding two_at
+returns c = simp (← c.byte_at-high.ensures, ← c.byte_at-low.ensures)

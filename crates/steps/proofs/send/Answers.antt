@@ -1,0 +1,5 @@
+use borrow.Author.Rules.{rules}
+use Rattle.steps.proofs.send.Goals as goal
+
+pub returns : goal.returns
+returns c = simp (← c.reply_to.ensures, ← c.completion_of.ensures, c.add_two.ensures)
