@@ -201,7 +201,7 @@ heard_run {m} {h} g known {l} opens o k w (x ∷ ys) free f =
     let d = delivered_by m x w in
     let rest = deliveries (after m x) (followed m x w) ys in
     heard_fewer (reached (after m x) ys) (history_from m h (x ∷ ys)) (open_from m h l (x ∷ ys)) o (k + d + rest) (k + (d + rest)) (place_after (after m x) (followed m x w) ys) (omega arith)
-    (heard_run (good_after g x) (known_after g known x) (same_changed g opens (change m h l x)) o (k + d) (followed m x w) ys free.1 (heard_step g known opens o k w x free.0 f))
+    (heard_run {m = after m x} (good_after g x) (known_after g known x) (same_changed g opens (change m h l x)) o (k + d) (followed m x w) ys free.1 (heard_step g known opens o k w x free.0 f))
 
 -- a packet that asks the switch is at the first stage
 asked : (s : List ℕ) (o : ℕ) (msg : Message) → asks_for o msg ≡ true → Stage s o 0 msg

@@ -11,10 +11,10 @@ pub returns-in-Done : goal.returns-in-Done
 returns-in-Done c = let a = c.args in rw c.in-Done.is (omega (arith, done_length a.number a.waiting a.marks, c.ok_length.ensures.0))
 
 pub returns-in-Finished : goal.returns-in-Finished
-returns-in-Finished c = let a = c.args in let told = c.answer-1.given in rw told.1 (omega (arith, finished_length a.number told.0.0 told.0.1.0 told.0.1.1.0 a.waiting a.marks, c.ok_length-in-Finished.ensures.0, c.finish_length.ensures.0))
+returns-in-Finished c = let a = c.args in rw c.in-Finished.is (omega (arith, finished_length a.number c.in-Finished.operation c.in-Finished.value c.in-Finished.freshness a.waiting a.marks, c.ok_length-in-Finished.ensures.0, c.finish_length.ensures.0))
 
 pub returns-in-FinishedContext : goal.returns-in-FinishedContext
-returns-in-FinishedContext c = let a = c.args in let told = c.answer-in-FinishedContext-1.given in rw told.1 (omega (arith, finished_context_length a.number told.0.0 told.0.1.0 a.waiting a.marks, c.ok_length-in-FinishedContext.ensures.0, c.context_length.ensures.0))
+returns-in-FinishedContext c = let a = c.args in rw c.in-FinishedContext.is (omega (arith, finished_context_length a.number c.in-FinishedContext.read c.in-FinishedContext.v a.waiting a.marks, c.ok_length-in-FinishedContext.ensures.0, c.context_length.ensures.0))
 
 pub returns-in-Refused : goal.returns-in-Refused
 unfolding line_of

@@ -1,4 +1,3 @@
--- The loop's invariant: the bytes from place at + left on are the last digits of n, and rest has the other ones; past the digits no byte changes.
 use mathlib.Core.Path.{◌≡◌, refl, sym, ap, ◌∙◌}
 use mathlib.Core.List.{◌++◌}
 use Prim.Native.Nat.{ℕ, ◌+◌, ◌-◌, ◌≤◌}
@@ -10,28 +9,16 @@ use Rattle.line_lengths.specs.Lines.{digits}
 use Rattle.lines.proofs.Digits.{filled, fill_none, fill_more, fill_all}
 use Rattle.line_lengths.proofs.Numbers.{digits_length}
 use Rattle.lines.proofs.Text.{pasted_by}
-use Rattle.lines.proofs.put_digits.Statement.{statement}
-use Rattle.lines.proofs.put_digits.Tie as tie
+use Rattle.lines.proofs.put_digits.Goals as goal
 
-abbrev invariant-loop : tie.invariant-loop
-invariant-loop out₀ at n k rest₀ left₀ out rest left =
-    (take at out₀ ++ digits k n ≡ filled at (at + k) left rest out) ×
-    (left ≤ k) ×
-    (length out ≡ length out₀) ×
-    (drop (at + k) out ≡ drop (at + k) out₀) ×
-    (at + k ≤ length out₀)
-
-abbrev decreases-loop : tie.decreases-loop
-decreases-loop out₀ at n k rest₀ left₀ out rest left = left
-
-loop-holds : tie.Need-loop-init invariant-loop decreases-loop
-loop-holds c =
+pub loop-left-init : goal.loop-left-init
+loop-left-init c =
     let s = c.args in (fill_none s.at s.k s.n s.out.now, omega arith, refl, refl, c.requires.0)
 
-loop-again : tie.Need-loop-preserved invariant-loop decreases-loop
-loop-again c =
-    let s = c.before.before.args in
-    let l = c.before.loop in (
+pub loop-left-preserved : goal.loop-left-preserved
+loop-left-preserved c =
+    let s = c.args in
+    let l = c.loop-left in (
       l.invariant.0 ∙ fill_more s.at (s.at + s.k) l.left l.rest l.out (omega arith) (omega arith) (omega arith),
       omega arith,
       simp length-set (omega arith),
@@ -39,10 +26,10 @@ loop-again c =
       l.invariant.4,
     )
 
-returns : tie.Need-returns invariant-loop decreases-loop
+pub returns : goal.returns
 returns c =
-    let s = c.before.before.args in
-    let l = c.before.loop in
+    let s = c.args in
+    let l = c.loop-left in
     let none : l.left ≡ 0 = omega arith in
     let all : s.k ≡ length (digits s.k s.n) = sym (digits_length s.k s.n) in
     let front : take s.at s.out.now ++ digits s.k s.n ≡ take (s.at + s.k) l.out =
@@ -55,21 +42,3 @@ returns c =
           (ap (λ (i : ℕ). drop (s.at + i) l.out) (sym all) ∙ l.invariant.3 ∙ ap (λ (i : ℕ). drop (s.at + i) s.out.now) all);
       long = l.invariant.2;
     }
-
-pub put_digits_spec : {M : Type 1} → statement M
-put_digits_spec =
-    tie.close
-    (tie.spec
-    invariant-loop
-    decreases-loop
-    loop-holds
-    (λ c. search rules)
-    (λ c. search rules)
-    (λ c. search rules)
-    (λ c. search rules)
-    (λ c. search rules)
-    (λ c. search rules)
-    loop-again
-    (λ c. search rules)
-    (λ c. search rules)
-    returns)

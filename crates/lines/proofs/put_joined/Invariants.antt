@@ -1,0 +1,20 @@
+-- The loop's invariant: the values before place i are put, with their commas, and there is room for all.
+use mathlib.Core.Path.{◌≡◌, ap, ◌∙◌}
+use mathlib.Core.List.{◌∷◌, ◌++◌}
+use Prim.Native.Nat.{◌+◌, ◌-◌, ◌≤◌}
+use native.Mathlib.Omega.{arith}
+use lib.ListN.{length}
+use Rattle.contexts.specs.{size_of}
+use Rattle.line_lengths.specs.Lines.{decimal, later_values, joined}
+use Rattle.line_lengths.proofs.Laws.{joined_parts, later_more, later_room}
+use Rattle.lines.specs.Text.{Puts}
+use Rattle.lines.proofs.Text.{puts_then, puts_none}
+use borrow.Author.Rules.{rules}
+use Rattle.lines.proofs.put_joined.Given as goal
+
+abbrev pub invariant-loop-i : goal.invariant-loop-i
+invariant-loop-i l =
+    Puts l.initial.out l.initial.end (later_values l.v (l.i - 1)) l.end l.out × (l.initial.end + length (later_values l.v (l.n - 1)) ≤ length l.initial.out) × (l.n ≡ size_of l.v) × (l.n ≤ 8) × (1 ≤ l.i) × (l.i - 1 ≤ l.n - 1)
+
+abbrev pub decreases-loop-i : goal.decreases-loop-i
+decreases-loop-i l = l.n - l.i

@@ -1,2 +1,0 @@
--- What walks over the machine share.
-pub mod Lent

@@ -1,2 +1,0 @@
--- What the walks over the reader share.
-pub mod Walks
