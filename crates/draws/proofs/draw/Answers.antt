@@ -1,0 +1,7 @@
+use Rattle.std.proofs.Common.{◌∙◌, arith, rules}
+use Rattle.draws.specs.{drawn}
+use Rattle.draws.proofs.draw.Goals as goal
+
+pub returns : goal.returns
+unfolding drawn
+returns c = c.wrapping_add_u32.ensures.value ∙ omega (arith, c.multiply.ensures)

@@ -1,0 +1,7 @@
+use Rattle.sessions.specs.{asked_by}
+use borrow.Author.Rules.{rules}
+use Rattle.sessions.proofs.asked.Goals as goal
+
+pub returns : goal.returns
+unfolding asked_by
+returns c = simp (c.whole_step.ensures, c.record_at.ensures)

@@ -1,0 +1,5 @@
+use borrow.Author.Rules.{rules}
+use Rattle.turns.proofs.end.Goals as goal
+
+pub returns : goal.returns
+returns c = simp c.one_fewer.ensures
