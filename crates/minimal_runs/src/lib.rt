@@ -1,3 +1,2 @@
 // Theorems alone: what holds of the records that a shortened run keeps (crates/shortening).
 #![tactic(auto)]
-

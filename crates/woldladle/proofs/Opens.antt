@@ -68,7 +68,7 @@ counted_step m x c = counted_rows (counted_opens c (effect m x).opens) (effect m
 pub finished_from_1 : (m : Machine) (x : Step) → Counted m.opens → (o v f : ℕ) → answer_to m x ≡ Finished o v f → 1 ≤ o
 finished_from_1 m x c o v f e =
     let d = finished_by_deliver m x o v f e in
-    (c.from_1 o (finished_by_reply m d.0 d.1 o v f (ap (answer_to m) (sym d.2) ∙ e)).is_open).0
+    (c.from_1 o (finished_by_reply m d.0 d.1 o v f (ap (answer_to m) (sym d.2) ∙ e)).was_open).0
 
 -- so has a read of a whole context, and it has 2 values or more
 pub context_from_1 : (m : Machine) (x : Step) → Counted m.opens → (o : ℕ) (v : Context) → answer_to m x ≡ FinishedContext o v → (1 ≤ o) × (2 ≤ v.count)
