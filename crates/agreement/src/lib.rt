@@ -6,10 +6,9 @@ ghost use Rattle.runs.specs.Runs.{printed};
 ghost use Rattle.agreement.specs.{IsPrefixLen, stands_in, same_bytes, output_room, outputs_of};
 
 use std::fs::File;
-use std::io;
 use std::io::Read;
 use std::rt::Files;
-use std::str;
+use std::{io, str};
 
 // Room for the output of any input.
 const OUTPUT_ROOM: usize = 3276800;
@@ -95,12 +94,7 @@ fn read_path(rt: &impl Files, path: &[u8], buf: &mut [u8]) -> io::Result<usize>
 }
 
 // Reads the file NAME.SUFFIX, as far as the buffer has room; nothing where there is none. How many bytes were read. An error is one of reading.
-pub fn read_named(
-    rt: &impl Files,
-    name: &[u8],
-    suffix: &[u8],
-    buf: &mut [u8],
-) -> io::Result<usize>
+pub fn read_named(rt: &impl Files, name: &[u8], suffix: &[u8], buf: &mut [u8]) -> io::Result<usize>
     ensures read { IfOk result (λ n. IsPrefixLen n buf.new) }
     ensures room { length buf.new ≡ length buf.old }
 {
