@@ -1,3 +1,2 @@
 // Theorems about lists, for the crates above: no code.
 #![tactic(auto)]
-

@@ -42,7 +42,7 @@ use Rattle.protocol.specs.Contexts.{has_row, released, leaving, dropping_row, co
 use Rattle.protocol.specs.Decisions.{Given, Outcome, Switched, Stored, Opened, switched, stored, opened, keeping, changing_switch, changing_store, changing_opens}
 use Rattle.protocol.specs.Decisions.{no_edit, take_out, take_out_add, add_one, deciding, refusing, dropping, passing, overfull}
 use Rattle.protocol.specs.Delivery.{answering, stamping, unstamped_write, switch_read, chain_write, leader_write, stamped_write, acknowledgement, direct_read, normal_read, completion, reply, delivered_message}
-use Rattle.protocol.specs.Steps.{Machine, given_by, outcome_of, position_of, is_malformed, decided, decided_in, asking, begin_operation, begin_context, is_sound, delivered, lost, copied, repeated, sending, chain_advancing, acknowledges, follower_advancing, advancing, executing_on, replacing, telling, removing, joining, copying_on, giving_up, answer_to}
+use Rattle.protocol.specs.Steps.{Machine, given_by, outcome_of, position_of, is_malformed, decided, decided_in, asking, begin_operation, begin_context, is_sound, delivered, lost, copied, repeated, sending, chain_advancing, follower_advancing, advancing, executing_on, replacing, telling, removing, joining, copying_on, giving_up, answer_to}
 
 -- what a message is to the list of those that wait: the unstamped write of an operation; a stamped write for a replica; one that names a row; a follower's acknowledgement; or none of these
 pub data Sort : Type 0 where

@@ -1,7 +1,6 @@
 -- Document 02, Req 02: what delivery does with a read of a whole context, and what becomes of its row. w is the switch, s the store; o is the operation, r its row.
 use Rattle.std.specs.Prelude.{Bool, true, cond, List, ℕ}
 use Rattle.operations.specs.{is_open, closing}
-use Rattle.contexts.specs.declared.Context.{Context}
 use Rattle.contexts.specs.{numbers_of, mapped, is_count, is_context, context_at, holding, freeing}
 use Rattle.store.specs.{value_at}
 use Rattle.chain.specs.{is_member, is_read_replica, table_of, read_replica_number, chosen_by}

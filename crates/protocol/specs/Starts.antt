@@ -1,5 +1,5 @@
 -- The start: what a step sets up, and what is refused. Document 01, tag 32, and 'Turned down', 1 and 2; document 02, Req 11, tag 33.
-use Rattle.std.specs.Prelude.{Bool, true, false, cond, not, ℕ, eqb, ltb}
+use Rattle.std.specs.Prelude.{Bool, true, false, cond, not, eqb, ltb}
 use Rattle.limits.specs as limits
 use Rattle.protocol.specs.declared.Answer.{Answer}
 use Rattle.protocol.specs.declared.Answer.TheVariants.{Done, Refused}

@@ -1,5 +1,5 @@
 -- What is read of the quorum store after each change, with no cell number in sight.
-use mathlib.Core.Path.{◌≡◌, refl, ap, ◌∙◌}
+use mathlib.Core.Path.{◌≡◌, ap, ◌∙◌}
 use mathlib.Core.Bool.{true}
 use mathlib.Core.List.{List}
 use Prim.Native.Nat.{ℕ, ◌+◌, ◌%◌, ◌≤◌, ◌<◌, max}
@@ -9,7 +9,6 @@ use lib.ListN.{length, get_or, set, length-set}
 use lib.Seq.{get_or-set_same, get_or-set_other}
 use borrow.Author.Tests.{lt-ltb}
 use Rattle.limits.specs as limits
-use Rattle.stamp.specs.Stamps.{stamp_in}
 use Rattle.store.specs.declared.Write.{Write}
 use Rattle.store.specs.{highest_cell, permit_cell, applied_cell, value_cell, stamp_cell, kind_cell, logged_cell, acknowledged_cell, item_cell, store_cells, members, row_of, highest_of, permitted_by, applied_by, entry_at, value_at, stamp_at, logged, is_quorum}
 use Rattle.chain.specs.{head_of, permitting, empty_store}

@@ -7,7 +7,6 @@ use mathlib.Core.Logic.{inl, inr}
 use Prim.Native.Nat.{ℕ, zero, suc, ◌+◌, ◌-◌, ◌≤◌, ◌<◌}
 use native.Mathlib.Omega.{arith}
 use native.Mathlib.Decide.{ℕ_discrete}
-use lib.ListN.{get_or}
 use borrow.Author.Tests.{ne_eqb}
 use Rattle.stamp.proofs.Laws.{le_above}
 use Rattle.slots.specs.{counts_above}

@@ -1,7 +1,6 @@
 use mathlib.Core.Path.{refl}
-use borrow.Author.Tests.{le-leb, lt-leb, not-false, not-true}
+use borrow.Author.Tests.{le-leb, lt-leb}
 use Rattle.protocol.specs.Steps.{begin_operation}
-use borrow.Author.Rules.{rules}
 use Rattle.begins.proofs.begin.Goals as goal
 
 pub returns-then-x-ge-OBJECTS : goal.returns-then-x-ge-OBJECTS

@@ -1,7 +1,6 @@
 use mathlib.Core.Path.{refl}
-use borrow.Author.Tests.{le-leb, le-ltb, lt-leb, lt-ltb, not-false, not-true}
+use borrow.Author.Tests.{le-leb, le-ltb, lt-leb, lt-ltb}
 use Rattle.protocol.specs.Steps.{begin_context}
-use borrow.Author.Rules.{rules}
 use Rattle.begins.proofs.begin_context.Goals as goal
 
 pub returns-then-not-are_objects : goal.returns-then-not-are_objects

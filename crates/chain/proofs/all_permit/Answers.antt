@@ -1,8 +1,6 @@
-use Prim.Native.Nat.{◌-◌}
-use borrow.Author.Rules.{rules}
-use Rattle.lists.proofs.Passing.{Passing, none_yet, number_passes, number_fails, all_passed}
-use Rattle.store.specs.{live_count, order_at, members}
-use Rattle.chain.specs.{permits, all_permit}
+use Rattle.lists.proofs.Passing.{none_yet, number_passes, number_fails, all_passed}
+use Rattle.store.specs.{members}
+use Rattle.chain.specs.{all_permit}
 use mathlib.Core.Path.{ap}
 use mathlib.Core.Bool.{not}
 use Rattle.chain.proofs.all_permit.Goals as goal

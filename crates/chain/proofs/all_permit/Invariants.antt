@@ -1,11 +1,8 @@
 -- The loop's invariant: each of the first i replicas permits the switch.
 use Prim.Native.Nat.{◌-◌}
-use borrow.Author.Rules.{rules}
-use Rattle.lists.proofs.Passing.{Passing, none_yet, number_passes, number_fails, all_passed}
-use Rattle.store.specs.{live_count, order_at, members}
-use Rattle.chain.specs.{permits, all_permit}
-use mathlib.Core.Path.{ap}
-use mathlib.Core.Bool.{not}
+use Rattle.lists.proofs.Passing.{Passing}
+use Rattle.store.specs.{live_count, order_at}
+use Rattle.chain.specs.{permits}
 use Rattle.chain.proofs.all_permit.Given as goal
 
 abbrev pub invariant-loop-i : goal.invariant-loop-i

@@ -1,6 +1,5 @@
 use mathlib.Core.Path.{refl}
 use Rattle.store.specs.{order_at}
-use borrow.Author.Rules.{rules}
 use Rattle.chain.proofs.at.Goals as goal
 
 pub returns : goal.returns

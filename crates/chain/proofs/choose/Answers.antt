@@ -3,7 +3,6 @@ use native.Mathlib.Nat.{mod-lt}
 use Rattle.chain.proofs.Numbers.{chosen_none, chosen_at}
 use mathlib.Core.Path.{sym, ◌∙◌}
 use native.Mathlib.Omega.{arith}
-use borrow.Author.Rules.{rules}
 use Rattle.chain.proofs.choose.Goals as goal
 
 pub returns-then-n-eq0 : goal.returns-then-n-eq0

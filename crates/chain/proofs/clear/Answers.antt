@@ -1,5 +1,4 @@
 use Rattle.chain.specs.{empty_store, empty_cells}
-use borrow.Author.Rules.{rules}
 use Rattle.chain.proofs.clear.Goals as goal
 
 pub returns : goal.returns

@@ -1,6 +1,5 @@
 use native.Mathlib.Omega.{arith}
 use Rattle.store.specs.{live_count}
-use borrow.Author.Rules.{rules}
 use Rattle.chain.proofs.count.Goals as goal
 
 pub returns-then-n-gt-REPLICAS : goal.returns-then-n-gt-REPLICAS

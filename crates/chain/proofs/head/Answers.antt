@@ -1,5 +1,4 @@
 use Rattle.chain.specs.{head_of}
-use borrow.Author.Rules.{rules}
 use Rattle.chain.proofs.head.Goals as goal
 
 pub returns : goal.returns

@@ -1,5 +1,4 @@
 use Rattle.chain.specs.{head_number}
-use borrow.Author.Rules.{rules}
 use Rattle.chain.proofs.head_number.Goals as goal
 
 pub returns : goal.returns

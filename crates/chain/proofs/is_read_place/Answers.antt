@@ -1,7 +1,6 @@
 use mathlib.Core.Path.{sym, ◌∙◌}
 use native.Mathlib.Omega.{arith}
 use Rattle.chain.proofs.Numbers.{read_place_none, read_place_last, read_place_first}
-use borrow.Author.Rules.{rules}
 use Rattle.chain.proofs.is_read_place.Goals as goal
 
 pub returns-then-is_quorum : goal.returns-then-is_quorum

@@ -1,7 +1,6 @@
 use Rattle.chain.proofs.Members.{member_past, member_order}
 use mathlib.Core.Path.{sym, ◌∙◌}
 use native.Mathlib.Omega.{arith}
-use borrow.Author.Rules.{rules}
 use Rattle.chain.proofs.member.Goals as goal
 
 pub returns-then-count-place : goal.returns-then-count-place

@@ -1,6 +1,5 @@
 use mathlib.Core.Path.{refl}
 use Rattle.store.specs.{number_at}
-use borrow.Author.Rules.{rules}
 use Rattle.chain.proofs.number_at.Goals as goal
 
 pub returns : goal.returns

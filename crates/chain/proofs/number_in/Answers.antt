@@ -1,7 +1,6 @@
 use Rattle.chain.proofs.Numbers.{number_past, number_order}
 use mathlib.Core.Path.{sym, ◌∙◌}
 use native.Mathlib.Omega.{arith}
-use borrow.Author.Rules.{rules}
 use Rattle.chain.proofs.number_in.Goals as goal
 
 pub returns-then-count-place : goal.returns-then-count-place

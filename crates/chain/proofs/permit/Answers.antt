@@ -1,5 +1,4 @@
 use Rattle.chain.specs.{permitting}
-use borrow.Author.Rules.{rules}
 use Rattle.chain.proofs.permit.Goals as goal
 
 pub returns : goal.returns

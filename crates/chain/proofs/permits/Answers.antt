@@ -1,5 +1,4 @@
 use Rattle.chain.specs.{permits}
-use borrow.Author.Rules.{rules}
 use Rattle.chain.proofs.permits.Goals as goal
 
 pub returns : goal.returns

@@ -1,11 +1,7 @@
 -- The loop's invariant: the replica is at none of the first i places.
-use mathlib.Core.Path.{◌≡◌, sym, ◌∙◌}
+use mathlib.Core.Path.{◌≡◌}
 use Prim.Native.Nat.{ℕ, ◌-◌, ◌≤◌, ◌<◌}
-use native.Mathlib.Omega.{arith}
-use borrow.Author.Count.{below_more, below_none}
-use borrow.Author.Rules.{rules}
 use Rattle.store.specs.{live_count, number_at}
-use Rattle.chain.proofs.Numbers.{place_first, place_none}
 use Rattle.chain.proofs.place.Given as goal
 
 abbrev pub invariant-loop-i : goal.invariant-loop-i

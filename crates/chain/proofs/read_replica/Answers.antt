@@ -1,5 +1,4 @@
 use Rattle.chain.specs.{read_replica_of}
-use borrow.Author.Rules.{rules}
 use Rattle.chain.proofs.read_replica.Goals as goal
 
 pub returns-then-is_quorum : goal.returns-then-is_quorum

@@ -1,14 +1,7 @@
 -- The loop's invariant: the cells are those at the start, of which the places from `from` to i have moved up.
-use mathlib.Core.Path.{◌≡◌, sym, ap, ◌∙◌}
-use mathlib.Core.List.{List}
-use Prim.Native.Nat.{ℕ, ◌+◌, ◌-◌, ◌≤◌, ◌<◌}
-use native.Mathlib.Omega.{arith}
-use lib.ListN.{set, get_or}
-use borrow.Author.Rules.{rules}
-use borrow.Author.Tests.{lt-ltb, le-ltb}
+use mathlib.Core.Path.{◌≡◌}
+use Prim.Native.Nat.{◌+◌, ◌-◌, ◌≤◌}
 use Rattle.lists.specs.{moves}
-use Rattle.lists.proofs.Closing.{moves_none, moves_turn}
-use Rattle.chain.specs.{removed}
 use Rattle.chain.proofs.remove.Given as goal
 
 abbrev pub invariant-loop-i : goal.invariant-loop-i

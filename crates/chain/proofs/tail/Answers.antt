@@ -1,7 +1,6 @@
 use Rattle.chain.proofs.Members.{tail_none, tail_at}
 use mathlib.Core.Path.{sym, ◌∙◌}
 use native.Mathlib.Omega.{arith}
-use borrow.Author.Rules.{rules}
 use Rattle.chain.proofs.tail.Goals as goal
 
 pub returns-then-n-eq0 : goal.returns-then-n-eq0

@@ -1,7 +1,6 @@
 use Rattle.chain.proofs.Numbers.{tail_number_none, tail_number_at}
 use mathlib.Core.Path.{sym, ◌∙◌}
 use native.Mathlib.Omega.{arith}
-use borrow.Author.Rules.{rules}
 use Rattle.chain.proofs.tail_number.Goals as goal
 
 pub returns-then-n-eq0 : goal.returns-then-n-eq0

@@ -1,6 +1,5 @@
 use mathlib.Core.Path.{refl}
 use Rattle.protocol.specs.Contexts.{answering_context}
-use borrow.Author.Rules.{rules}
 use Rattle.context_answers.proofs.answer.Goals as goal
 
 pub returns : goal.returns

@@ -1,6 +1,5 @@
 use borrow.Author.Tests.{eq-eqb, ne_eqb}
 use Rattle.replicas.specs.Replicas.{answers_direct}
-use borrow.Author.Rules.{rules}
 use Rattle.context_answers.proofs.answers.Goals as goal
 
 pub returns-then-permitted-number : goal.returns-then-permitted-number

@@ -1,5 +1,4 @@
 use Rattle.protocol.specs.Reads.{answers_read}
-use borrow.Author.Rules.{rules}
 use Rattle.context_answers.proofs.answers_read.Goals as goal
 
 pub returns-then-is_quorum : goal.returns-then-is_quorum

@@ -2,7 +2,6 @@ use mathlib.Core.Path.{refl}
 use borrow.Author.Tests.{le-ltb, lt-ltb}
 use Rattle.chain.specs.{is_member, table_of}
 use Rattle.protocol.specs.Contexts.{direct_context}
-use borrow.Author.Rules.{rules}
 use Rattle.context_answers.proofs.direct_read.Goals as goal
 
 pub returns-then-n-place : goal.returns-then-n-place

@@ -1,7 +1,5 @@
 use mathlib.Core.Path.{refl}
-use borrow.Author.Tests.{not-false, not-true}
 use Rattle.protocol.specs.Contexts.{context_reply}
-use borrow.Author.Rules.{rules}
 use Rattle.context_answers.proofs.finish.Goals as goal
 
 pub returns-then-not-is_open : goal.returns-then-not-is_open

@@ -1,8 +1,7 @@
 use mathlib.Core.Path.{refl}
-use borrow.Author.Tests.{le-ltb, lt-ltb, not-false, not-true}
+use borrow.Author.Tests.{le-ltb, lt-ltb}
 use Rattle.chain.specs.{is_member, is_read_replica, table_of}
 use Rattle.protocol.specs.Contexts.{normal_context}
-use borrow.Author.Rules.{rules}
 use Rattle.context_answers.proofs.normal_read.Goals as goal
 
 pub returns-then-n-place : goal.returns-then-n-place

@@ -1,5 +1,4 @@
 use Rattle.contexts.specs.{mapped}
-use borrow.Author.Rules.{rules}
 use Rattle.context_answers.proofs.values.Goals as goal
 
 pub returns : goal.returns

@@ -1,6 +1,4 @@
-use borrow.Author.Tests.{not-false, not-true}
 use Rattle.protocol.specs.Reads.{goes_directly}
-use borrow.Author.Rules.{rules}
 use Rattle.context_reads.proofs.goes_directly.Goals as goal
 
 pub returns-then-not-is_direct : goal.returns-then-not-is_direct

@@ -1,5 +1,4 @@
 use Rattle.protocol.specs.Reads.{is_unmarked}
-use borrow.Author.Rules.{rules}
 use Rattle.context_reads.proofs.is_unmarked.Goals as goal
 
 pub returns : goal.returns

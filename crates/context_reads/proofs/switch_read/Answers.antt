@@ -1,7 +1,5 @@
 use mathlib.Core.Path.{refl}
-use borrow.Author.Tests.{not-false, not-true}
 use Rattle.protocol.specs.Contexts.{context_read}
-use borrow.Author.Rules.{rules}
 use Rattle.context_reads.proofs.switch_read.Goals as goal
 
 pub returns-then-not-goes_directly : goal.returns-then-not-goes_directly

@@ -1,6 +1,5 @@
 use mathlib.Core.Path.{refl}
 use Rattle.protocol.specs.Contexts.{dropping_row}
-use borrow.Author.Rules.{rules}
 use Rattle.context_rows.proofs.drop_row.Goals as goal
 
 pub returns : goal.returns

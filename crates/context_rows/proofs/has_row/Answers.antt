@@ -1,6 +1,4 @@
-use borrow.Author.Tests.{not-false, not-true}
 use Rattle.protocol.specs.Contexts.{has_row}
-use borrow.Author.Rules.{rules}
 use Rattle.context_rows.proofs.has_row.Goals as goal
 
 pub returns-then-not-is_of_context : goal.returns-then-not-is_of_context

@@ -1,6 +1,5 @@
 use mathlib.Core.Path.{refl}
 use Rattle.protocol.specs.Contexts.{leaving}
-use borrow.Author.Rules.{rules}
 use Rattle.context_rows.proofs.leave.Goals as goal
 
 pub returns : goal.returns

@@ -1,5 +1,4 @@
 use Rattle.protocol.specs.Contexts.{released}
-use borrow.Author.Rules.{rules}
 use Rattle.context_rows.proofs.release.Goals as goal
 
 pub returns-then-is_of_context : goal.returns-then-is_of_context

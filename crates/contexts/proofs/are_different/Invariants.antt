@@ -1,11 +1,6 @@
-use mathlib.Core.Path.{sym, ap, ◌∙◌}
 use Prim.Native.Nat.{◌-◌}
-use native.Mathlib.Omega.{arith}
-use borrow.Author.Rules.{rules}
-use Rattle.lists.specs.{index_of}
-use Rattle.lists.proofs.Passing.{Passing, none_yet, one_passes, one_fails, all_passed}
-use Rattle.contexts.specs.{numbers_of, size_of, stands_first, are_different}
-use Rattle.contexts.proofs.Places.{stands_first_lem, stands_later}
+use Rattle.lists.proofs.Passing.{Passing}
+use Rattle.contexts.specs.{numbers_of, size_of, stands_first}
 use Rattle.contexts.proofs.are_different.Given as goal
 
 abbrev pub invariant-loop-i : goal.invariant-loop-i

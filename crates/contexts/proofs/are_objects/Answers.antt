@@ -1,7 +1,5 @@
-use Prim.Native.Nat.{◌-◌}
-use borrow.Author.Rules.{rules}
-use Rattle.lists.proofs.Passing.{Passing, none_yet, number_passes, number_fails, all_passed}
-use Rattle.contexts.specs.{place_of, size_of, numbers_of, is_object, are_objects}
+use Rattle.lists.proofs.Passing.{none_yet, number_passes, number_fails, all_passed}
+use Rattle.contexts.specs.{numbers_of, are_objects}
 use mathlib.Core.Path.{ap}
 use mathlib.Core.Bool.{not}
 use Rattle.contexts.proofs.are_objects.Goals as goal

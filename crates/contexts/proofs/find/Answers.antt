@@ -1,10 +1,7 @@
-use mathlib.Core.Path.{◌≡◌, sym, ◌∙◌}
-use Prim.Native.Nat.{ℕ, ◌-◌, ◌≤◌, ◌<◌}
+use mathlib.Core.Path.{sym, ◌∙◌}
 use native.Mathlib.Omega.{arith}
 use borrow.Author.Count.{below_more, below_none}
-use Rattle.contexts.specs.{place_of, size_of}
 use Rattle.contexts.proofs.Places.{place_first, place_none}
-use borrow.Author.Rules.{rules}
 use Rattle.contexts.proofs.find.Goals as goal
 
 pub loop-i-init : goal.loop-i-init

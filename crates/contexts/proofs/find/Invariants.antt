@@ -1,10 +1,6 @@
-use mathlib.Core.Path.{◌≡◌, sym, ◌∙◌}
+use mathlib.Core.Path.{◌≡◌}
 use Prim.Native.Nat.{ℕ, ◌-◌, ◌≤◌, ◌<◌}
-use native.Mathlib.Omega.{arith}
-use borrow.Author.Count.{below_more, below_none}
 use Rattle.contexts.specs.{place_of, size_of}
-use Rattle.contexts.proofs.Places.{place_first, place_none}
-use borrow.Author.Rules.{rules}
 use Rattle.contexts.proofs.find.Given as goal
 
 abbrev pub invariant-loop-i : goal.invariant-loop-i

@@ -1,5 +1,4 @@
 use Rattle.contexts.specs.{freeing}
-use borrow.Author.Rules.{rules}
 use Rattle.contexts.proofs.free.Goals as goal
 
 pub returns : goal.returns

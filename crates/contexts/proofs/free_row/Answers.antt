@@ -1,10 +1,7 @@
-use mathlib.Core.Path.{◌≡◌, sym, ◌∙◌}
-use Prim.Native.Nat.{ℕ, ◌-◌, ◌≤◌, ◌<◌}
+use mathlib.Core.Path.{sym, ◌∙◌}
 use native.Mathlib.Omega.{arith}
 use borrow.Author.Count.{below_more, below_none}
-use Rattle.contexts.specs.{size_at}
 use Rattle.contexts.proofs.Rows.{free_first, free_none}
-use borrow.Author.Rules.{rules}
 use Rattle.contexts.proofs.free_row.Goals as goal
 
 pub loop-r-init : goal.loop-r-init

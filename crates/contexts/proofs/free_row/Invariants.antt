@@ -1,10 +1,6 @@
-use mathlib.Core.Path.{◌≡◌, sym, ◌∙◌}
+use mathlib.Core.Path.{◌≡◌}
 use Prim.Native.Nat.{ℕ, ◌-◌, ◌≤◌, ◌<◌}
-use native.Mathlib.Omega.{arith}
-use borrow.Author.Count.{below_more, below_none}
 use Rattle.contexts.specs.{size_at}
-use Rattle.contexts.proofs.Rows.{free_first, free_none}
-use borrow.Author.Rules.{rules}
 use Rattle.contexts.proofs.free_row.Given as goal
 
 abbrev pub invariant-loop-r : goal.invariant-loop-r

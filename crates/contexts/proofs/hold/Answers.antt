@@ -1,5 +1,4 @@
 use Rattle.contexts.specs.{holding, puts}
-use borrow.Author.Rules.{rules}
 use Rattle.contexts.proofs.hold.Goals as goal
 
 pub returns : goal.returns

@@ -1,5 +1,4 @@
 use Rattle.contexts.specs.{is_context}
-use borrow.Author.Rules.{rules}
 use Rattle.contexts.proofs.is_context.Goals as goal
 
 pub returns-then-is_count : goal.returns-then-is_count

@@ -1,8 +1,6 @@
 use mathlib.Core.Path.{sym, ◌∙◌}
-use borrow.Author.Tests.{not-true, not-false}
 use Rattle.contexts.specs.{is_naming}
 use Rattle.contexts.proofs.Places.{naming_last}
-use borrow.Author.Rules.{rules}
 use Rattle.contexts.proofs.is_naming.Goals as goal
 
 pub returns-then-not-is_count : goal.returns-then-not-is_count

@@ -1,5 +1,4 @@
 use Rattle.contexts.specs.{context_at}
-use borrow.Author.Rules.{rules}
 use Rattle.contexts.proofs.load.Goals as goal
 
 pub returns : goal.returns

@@ -1,5 +1,4 @@
 use Rattle.contexts.specs.{number_at}
-use borrow.Author.Rules.{rules}
 use Rattle.contexts.proofs.number_at.Goals as goal
 
 pub returns : goal.returns

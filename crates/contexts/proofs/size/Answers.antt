@@ -1,6 +1,5 @@
 use native.Mathlib.Omega.{arith}
 use Rattle.contexts.specs.{size_of}
-use borrow.Author.Rules.{rules}
 use Rattle.contexts.proofs.size.Goals as goal
 
 pub returns-then-v-gt-CONTEXT_MOST : goal.returns-then-v-gt-CONTEXT_MOST

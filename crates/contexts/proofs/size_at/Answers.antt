@@ -1,5 +1,4 @@
 use Rattle.contexts.specs.{size_at}
-use borrow.Author.Rules.{rules}
 use Rattle.contexts.proofs.size_at.Goals as goal
 
 pub returns : goal.returns

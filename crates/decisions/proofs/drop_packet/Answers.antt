@@ -1,5 +1,4 @@
 use Rattle.protocol.specs.Decisions.{dropping}
-use borrow.Author.Rules.{rules}
 use Rattle.decisions.proofs.drop_packet.Goals as goal
 
 pub returns : goal.returns

@@ -2,7 +2,6 @@ use Rattle.protocol.proofs.Room.{room_none}
 use Rattle.protocol.proofs.Room.{room_left}
 use mathlib.Core.Path.{sym}
 use Rattle.protocol.specs.Decisions.{overfull}
-use borrow.Author.Rules.{rules}
 use Rattle.decisions.proofs.is_overfull.Goals as goal
 
 pub returns-then-left-gt-WAITING : goal.returns-then-left-gt-WAITING

@@ -1,5 +1,4 @@
 use Rattle.protocol.specs.Decisions.{passing}
-use borrow.Author.Rules.{rules}
 use Rattle.decisions.proofs.pass_on.Goals as goal
 
 pub returns : goal.returns

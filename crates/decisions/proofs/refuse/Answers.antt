@@ -1,5 +1,4 @@
 use Rattle.protocol.specs.Decisions.{refusing}
-use borrow.Author.Rules.{rules}
 use Rattle.decisions.proofs.refuse.Goals as goal
 
 pub returns : goal.returns

@@ -1,4 +1,3 @@
-use borrow.Author.Rules.{rules}
 use Rattle.decisions.proofs.take_out.Goals as goal
 
 pub returns : goal.returns

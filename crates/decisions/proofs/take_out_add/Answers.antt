@@ -1,4 +1,3 @@
-use borrow.Author.Rules.{rules}
 use Rattle.decisions.proofs.take_out_add.Goals as goal
 
 pub returns : goal.returns

@@ -1,5 +1,4 @@
 use Rattle.joins.specs.{beginning}
-use borrow.Author.Rules.{rules}
 use Rattle.joins.proofs.begin.Goals as goal
 
 pub returns : goal.returns

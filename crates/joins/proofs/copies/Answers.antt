@@ -1,7 +1,6 @@
 use mathlib.Core.Path.{refl}
 use native.Mathlib.Omega.{arith}
 use Rattle.joins.specs.{copies_made}
-use borrow.Author.Rules.{rules}
 use Rattle.joins.proofs.copies.Goals as goal
 
 pub returns-then-made-eq0 : goal.returns-then-made-eq0

@@ -1,6 +1,5 @@
 use borrow.Author.Tests.{eq-eqb, ne_eqb}
 use Rattle.joins.specs.{copying}
-use borrow.Author.Rules.{rules}
 use Rattle.joins.proofs.copy.Goals as goal
 
 pub returns-then-made-eq-COPIES : goal.returns-then-made-eq-COPIES

@@ -1,5 +1,4 @@
 use Rattle.joins.specs.{copied_object}
-use borrow.Author.Rules.{rules}
 use Rattle.joins.proofs.copy_object.Goals as goal
 
 pub returns : goal.returns

@@ -1,11 +1,7 @@
 -- The loop's invariant: the first k of the objects are copied.
-use mathlib.Core.Path.{◌≡◌, refl, sym, ap, ◌∙◌}
-use mathlib.Core.List.{List}
-use Prim.Native.Nat.{ℕ, ◌+◌, ◌-◌, ◌*◌, ◌≤◌, ◌<◌}
-use native.Mathlib.Numerals.{add-one}
-use native.Mathlib.Omega.{arith}
-use borrow.Author.Rules.{rules}
-use Rattle.joins.specs.{copied_object, copied, one_copy}
+use mathlib.Core.Path.{◌≡◌}
+use Prim.Native.Nat.{◌-◌, ◌≤◌, ◌<◌}
+use Rattle.joins.specs.{copied}
 use Rattle.joins.proofs.copy_objects.Given as goal
 
 abbrev pub invariant-loop-k : goal.invariant-loop-k

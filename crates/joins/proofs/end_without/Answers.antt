@@ -3,7 +3,6 @@ use native.Mathlib.Omega.{arith}
 use borrow.Author.Tests.{eq-eqb, ne_eqb}
 use Rattle.chain.specs.{is_tail}
 use Rattle.joins.specs.{join_ended}
-use borrow.Author.Rules.{rules}
 use Rattle.joins.proofs.end_without.Goals as goal
 
 pub returns-then-n-place : goal.returns-then-n-place

@@ -1,5 +1,4 @@
 use Rattle.joins.specs.{handing_on}
-use borrow.Author.Rules.{rules}
 use Rattle.joins.proofs.hand_on.Goals as goal
 
 pub returns-then-is_copied : goal.returns-then-is_copied

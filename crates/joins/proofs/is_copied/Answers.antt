@@ -1,6 +1,4 @@
-use borrow.Author.Tests.{not-false, not-true}
 use Rattle.joins.specs.{is_copied}
-use borrow.Author.Rules.{rules}
 use Rattle.joins.proofs.is_copied.Goals as goal
 
 pub returns-then-not-is_joining : goal.returns-then-not-is_joining

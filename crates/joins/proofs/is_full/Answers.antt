@@ -1,6 +1,5 @@
 use borrow.Author.Tests.{le-leb, lt-leb}
 use Rattle.joins.specs.{is_full}
-use borrow.Author.Rules.{rules}
 use Rattle.joins.proofs.is_full.Goals as goal
 
 pub returns-then-count-ge-REPLICAS : goal.returns-then-count-ge-REPLICAS

@@ -1,6 +1,5 @@
 use Rattle.joins.specs.{is_join_set, is_joining}
 use borrow.Author.Tests.{le-leb, lt-leb}
-use borrow.Author.Rules.{rules}
 use Rattle.joins.proofs.is_joining.Goals as goal
 
 pub returns-then-count-ge-REPLICAS : goal.returns-then-count-ge-REPLICAS

@@ -1,6 +1,5 @@
 use Rattle.store.specs.{order_at}
 use Rattle.joins.specs.{newcomer}
-use borrow.Author.Rules.{rules}
 use Rattle.joins.proofs.newcomer.Goals as goal
 
 pub returns : goal.returns

@@ -1,6 +1,5 @@
 use Rattle.store.specs.{number_at}
 use Rattle.joins.specs.{newcomer_number}
-use borrow.Author.Rules.{rules}
 use Rattle.joins.proofs.newcomer_number.Goals as goal
 
 pub returns : goal.returns

@@ -1,6 +1,5 @@
 use Rattle.joins.specs.{promoted}
 use Rattle.chain.specs.{permitting}
-use borrow.Author.Rules.{rules}
 use Rattle.joins.proofs.promote.Goals as goal
 
 pub returns : goal.returns

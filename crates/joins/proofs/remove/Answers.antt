@@ -1,5 +1,4 @@
 use Rattle.joins.specs.{without}
-use borrow.Author.Rules.{rules}
 use Rattle.joins.proofs.remove.Goals as goal
 
 pub returns : goal.returns

@@ -1,5 +1,4 @@
 use Rattle.protocol.specs.Messages.{packet_of}
-use borrow.Author.Rules.{rules}
 use Rattle.messages.proofs.packet_of.Goals as goal
 
 pub returns-in-UnstampedWrite : goal.returns-in-UnstampedWrite

@@ -1,7 +1,6 @@
 use mathlib.Core.Path.{refl}
 use borrow.Author.Tests.{le-ltb, lt-ltb}
 use Rattle.operations.specs.{closing, is_open}
-use borrow.Author.Rules.{rules}
 use Rattle.operations.proofs.close.Goals as goal
 
 pub returns-then-n-i : goal.returns-then-n-i

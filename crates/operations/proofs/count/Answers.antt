@@ -1,6 +1,5 @@
 use native.Mathlib.Omega.{arith}
 use Rattle.operations.specs.{open_count}
-use borrow.Author.Rules.{rules}
 use Rattle.operations.proofs.count.Goals as goal
 
 pub returns-then-n-gt-OPEN : goal.returns-then-n-gt-OPEN

@@ -1,6 +1,5 @@
 use mathlib.Core.Path.{sym, ◌∙◌}
 use native.Mathlib.Omega.{arith}
-use borrow.Author.Rules.{rules}
 use Rattle.operations.proofs.Search.{place_unheld, weighed_least, place_told, place_unused}
 use Rattle.operations.proofs.find.Goals as goal
 

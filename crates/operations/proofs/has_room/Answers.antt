@@ -1,5 +1,4 @@
 use Rattle.operations.specs.{room_to_open}
-use borrow.Author.Rules.{rules}
 use Rattle.operations.proofs.has_room.Goals as goal
 
 pub returns : goal.returns

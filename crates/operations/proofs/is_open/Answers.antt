@@ -1,5 +1,4 @@
 use Rattle.operations.specs.{is_open}
-use borrow.Author.Rules.{rules}
 use Rattle.operations.proofs.is_open.Goals as goal
 
 pub returns : goal.returns

@@ -1,6 +1,5 @@
 use mathlib.Core.Path.{refl}
 use Rattle.operations.specs.{last_given}
-use borrow.Author.Rules.{rules}
 use Rattle.operations.proofs.last.Goals as goal
 
 pub returns : goal.returns

@@ -1,6 +1,5 @@
 use borrow.Author.Tests.{le-ltb, lt-ltb}
 use Rattle.operations.specs.{opening, room_to_open}
-use borrow.Author.Rules.{rules}
 use Rattle.operations.proofs.open.Goals as goal
 
 pub returns-then-n-lt-OPEN : goal.returns-then-n-lt-OPEN

@@ -1,10 +1,6 @@
-use mathlib.Core.Path.{◌≡◌, sym, ◌∙◌}
-use Prim.Native.Nat.{ℕ, ◌-◌, ◌≤◌, ◌<◌}
+use mathlib.Core.Path.{sym, ◌∙◌}
 use native.Mathlib.Omega.{arith}
-use lib.ListN.{get_or}
 use borrow.Author.Count.{below_more, below_none}
-use borrow.Author.Rules.{rules}
-use Rattle.operations.specs.{open_count}
 use Rattle.operations.proofs.Laws.{place_first, place_none}
 use Rattle.operations.proofs.scan.Goals as goal
 

@@ -1,12 +1,8 @@
 -- The loop's invariant: none of the first i open numbers is the operation's.
-use mathlib.Core.Path.{◌≡◌, sym, ◌∙◌}
+use mathlib.Core.Path.{◌≡◌}
 use Prim.Native.Nat.{ℕ, ◌-◌, ◌≤◌, ◌<◌}
-use native.Mathlib.Omega.{arith}
 use lib.ListN.{get_or}
-use borrow.Author.Count.{below_more, below_none}
-use borrow.Author.Rules.{rules}
 use Rattle.operations.specs.{open_count}
-use Rattle.operations.proofs.Laws.{place_first, place_none}
 use Rattle.operations.proofs.scan.Given as goal
 
 abbrev pub invariant-loop-i : goal.invariant-loop-i

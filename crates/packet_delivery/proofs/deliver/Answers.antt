@@ -1,8 +1,7 @@
 use mathlib.Core.Path.{refl}
-use borrow.Author.Tests.{le-leb, lt-leb, not-false, not-true}
+use borrow.Author.Tests.{le-leb, lt-leb}
 use Rattle.protocol.specs.Steps.{delivered}
 use Rattle.packet_delivery.proofs.Leaves.{leaves}
-use borrow.Author.Rules.{rules}
 use Rattle.packet_delivery.proofs.deliver.Goals as goal
 
 pub returns-then-held-at : goal.returns-then-held-at

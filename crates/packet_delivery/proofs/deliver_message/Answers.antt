@@ -4,7 +4,6 @@ use borrow.Author.Tests.{ne_eqb}
 use Rattle.protocol.specs.Messages.{context_message, message_of}
 use Rattle.protocol.specs.Delivery.{delivered_message}
 use Rattle.packet_delivery.proofs.Leaves.{leaves}
-use borrow.Author.Rules.{rules}
 use Rattle.packet_delivery.proofs.deliver_message.Goals as goal
 
 pub returns-in-1 : goal.returns-in-1

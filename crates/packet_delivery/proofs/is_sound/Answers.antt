@@ -1,6 +1,5 @@
 use borrow.Author.Tests.{le-leb, lt-leb}
 use Rattle.protocol.specs.Steps.{is_sound}
-use borrow.Author.Rules.{rules}
 use Rattle.packet_delivery.proofs.is_sound.Goals as goal
 
 pub returns-then-p-ge-OBJECTS : goal.returns-then-p-ge-OBJECTS

@@ -1,6 +1,5 @@
-use borrow.Author.Tests.{lt-ltb, le-ltb, not-false, not-true}
+use borrow.Author.Tests.{lt-ltb, le-ltb}
 use Rattle.quorum.specs.{logs}
-use borrow.Author.Rules.{rules}
 use Rattle.quorum.proofs.accepts.Goals as goal
 
 pub returns-then-not-above : goal.returns-then-not-above

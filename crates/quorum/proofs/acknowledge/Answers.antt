@@ -2,7 +2,6 @@ use mathlib.Core.Path.{◌≡◌}
 use Prim.Native.Nat.{max}
 use native.Mathlib.Omega.{arith}
 use Rattle.quorum.specs.{acknowledging}
-use borrow.Author.Rules.{rules}
 use Rattle.quorum.proofs.acknowledge.Goals as goal
 
 pub returns-then-known-k : goal.returns-then-known-k

@@ -1,5 +1,4 @@
 use Rattle.quorum.specs.{acknowledged_by}
-use borrow.Author.Rules.{rules}
 use Rattle.quorum.proofs.acknowledged.Goals as goal
 
 pub returns : goal.returns

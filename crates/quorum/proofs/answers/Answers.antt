@@ -1,6 +1,5 @@
 use borrow.Author.Tests.{eq-eqb, ne_eqb}
 use Rattle.quorum.specs.{answers_behind}
-use borrow.Author.Rules.{rules}
 use Rattle.quorum.proofs.answers.Goals as goal
 
 pub returns-then-permitted-number : goal.returns-then-permitted-number

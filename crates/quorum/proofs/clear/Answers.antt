@@ -1,5 +1,4 @@
 use Rattle.quorum.specs.{quorum_store}
-use borrow.Author.Rules.{rules}
 use Rattle.quorum.proofs.clear.Goals as goal
 
 pub returns : goal.returns

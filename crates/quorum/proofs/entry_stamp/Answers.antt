@@ -1,4 +1,3 @@
-use borrow.Author.Rules.{rules}
 use Rattle.quorum.proofs.entry_stamp.Goals as goal
 
 pub returns : goal.returns

@@ -1,5 +1,4 @@
 use Rattle.quorum.specs.{executing}
-use borrow.Author.Rules.{rules}
 use Rattle.quorum.proofs.execute.Goals as goal
 
 pub returns : goal.returns

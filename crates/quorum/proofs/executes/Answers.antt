@@ -1,6 +1,5 @@
-use borrow.Author.Tests.{eq-eqb, ne_eqb, not-false, not-true}
+use borrow.Author.Tests.{eq-eqb, ne_eqb}
 use Rattle.quorum.specs.{executes}
-use borrow.Author.Rules.{rules}
 use Rattle.quorum.proofs.executes.Goals as goal
 
 pub returns-then-not_executed-eq0 : goal.returns-then-not_executed-eq0

@@ -1,5 +1,4 @@
 use Rattle.quorum.specs.{has_room}
-use borrow.Author.Rules.{rules}
 use Rattle.quorum.proofs.has_room.Goals as goal
 
 pub returns : goal.returns

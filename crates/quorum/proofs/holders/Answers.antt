@@ -1,12 +1,8 @@
 use mathlib.Core.Path.{◌∙◌}
-use mathlib.Core.Logic.{⊎_elim}
-use Prim.Native.Nat.{◌-◌}
 use native.Mathlib.Omega.{arith}
-use borrow.Author.Rules.{rules}
-use Rattle.store.specs.{live_count, order_at, members}
+use Rattle.store.specs.{members}
 use Rattle.chain.proofs.Members.{member_order}
-use Rattle.quorum.specs.{is_holder}
-use Rattle.quorum.proofs.Counts.{Counted, none_counted, one_counted, one_passed_over, all_counted}
+use Rattle.quorum.proofs.Counts.{none_counted, one_counted, one_passed_over, all_counted}
 use Rattle.quorum.proofs.holders.Goals as goal
 use Rattle.quorum.proofs.holders.Goals.{then-is_holder, else-is_holder}
 

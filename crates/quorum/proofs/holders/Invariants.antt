@@ -1,13 +1,8 @@
 -- The loop's invariant: so many of the first i replicas hold the entry.
-use mathlib.Core.Path.{◌∙◌}
-use mathlib.Core.Logic.{⊎_elim}
 use Prim.Native.Nat.{◌-◌}
-use native.Mathlib.Omega.{arith}
-use borrow.Author.Rules.{rules}
-use Rattle.store.specs.{live_count, order_at, members}
-use Rattle.chain.proofs.Members.{member_order}
+use Rattle.store.specs.{live_count, order_at}
 use Rattle.quorum.specs.{is_holder}
-use Rattle.quorum.proofs.Counts.{Counted, none_counted, one_counted, one_passed_over, all_counted}
+use Rattle.quorum.proofs.Counts.{Counted}
 use Rattle.quorum.proofs.holders.Given as goal
 
 abbrev pub invariant-loop-i : goal.invariant-loop-i

@@ -1,6 +1,5 @@
 use borrow.Author.Tests.{eq-eqb, ne_eqb}
 use Rattle.quorum.specs.{is_holder}
-use borrow.Author.Rules.{rules}
 use Rattle.quorum.proofs.is_holder.Goals as goal
 
 pub returns-then-r-head : goal.returns-then-r-head

@@ -5,7 +5,6 @@ use native.Mathlib.Omega.{arith}
 use Rattle.store.specs.{entry_at}
 use Rattle.chain.specs.{head_of}
 use Rattle.quorum.specs.{logged_by, last_logged}
-use borrow.Author.Rules.{rules}
 use Rattle.quorum.proofs.last_logged.Goals as goal
 
 -- the entry before the n that the leader r has logged

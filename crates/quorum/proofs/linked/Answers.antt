@@ -1,6 +1,5 @@
 use native.Mathlib.Omega.{arith}
 use Rattle.quorum.specs.{linked_items}
-use borrow.Author.Rules.{rules}
 use Rattle.quorum.proofs.linked.Goals as goal
 
 pub returns-then-all-own : goal.returns-then-all-own

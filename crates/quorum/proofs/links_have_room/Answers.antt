@@ -1,11 +1,9 @@
 use mathlib.Core.Path.{◌∙◌}
-use Prim.Native.Nat.{◌-◌}
 use native.Mathlib.Omega.{arith}
-use borrow.Author.Rules.{rules}
-use Rattle.lists.proofs.Passing.{Passing, none_yet, number_passes, number_fails, all_passed}
-use Rattle.store.specs.{live_count, order_at, members}
+use Rattle.lists.proofs.Passing.{none_yet, number_passes, number_fails, all_passed}
+use Rattle.store.specs.{members}
 use Rattle.chain.proofs.Members.{member_order}
-use Rattle.quorum.specs.{has_room, links_have_room}
+use Rattle.quorum.specs.{links_have_room}
 use mathlib.Core.Path.{ap}
 use mathlib.Core.Bool.{not}
 use Rattle.quorum.proofs.links_have_room.Goals as goal

@@ -5,7 +5,6 @@ use Rattle.store.specs.declared.Write.{Write}
 use Rattle.store.specs.{logged}
 use Rattle.chain.specs.{head_of}
 use Rattle.quorum.specs.{logged_by, sending_item, count_logged, logging}
-use borrow.Author.Rules.{rules}
 use Rattle.quorum.proofs.log.Goals as goal
 
 -- the three changes in turn, by the leader r that has logged p entries

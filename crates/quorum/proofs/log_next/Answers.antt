@@ -1,5 +1,4 @@
 use Rattle.quorum.specs.{count_logged}
-use borrow.Author.Rules.{rules}
 use Rattle.quorum.proofs.log_next.Goals as goal
 
 pub returns : goal.returns

@@ -1,5 +1,4 @@
 use Rattle.quorum.specs.{logged_by}
-use borrow.Author.Rules.{rules}
 use Rattle.quorum.proofs.logged.Goals as goal
 
 pub returns : goal.returns

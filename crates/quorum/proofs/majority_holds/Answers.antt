@@ -1,5 +1,4 @@
 use Rattle.quorum.specs.{majority_holds}
-use borrow.Author.Rules.{rules}
 use Rattle.quorum.proofs.majority_holds.Goals as goal
 
 pub returns : goal.returns

@@ -1,5 +1,4 @@
 use Rattle.quorum.specs.{next_is_entry}
-use borrow.Author.Rules.{rules}
 use Rattle.quorum.proofs.next_is_entry.Goals as goal
 
 pub returns : goal.returns

@@ -1,6 +1,5 @@
 use native.Mathlib.Omega.{arith}
 use Rattle.quorum.specs.{unexecuted}
-use borrow.Author.Rules.{rules}
 use Rattle.quorum.proofs.not_executed.Goals as goal
 
 pub returns-then-all-done : goal.returns-then-all-done

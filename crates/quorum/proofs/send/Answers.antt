@@ -1,6 +1,5 @@
 use Rattle.quorum.specs.{sending_item}
 use Rattle.store.specs.{item_cell}
-use borrow.Author.Rules.{rules}
 use Rattle.quorum.proofs.send.Goals as goal
 
 pub returns : goal.returns

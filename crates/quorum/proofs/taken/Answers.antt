@@ -1,5 +1,4 @@
 use Rattle.quorum.specs.{items_taken}
-use borrow.Author.Rules.{rules}
 use Rattle.quorum.proofs.taken.Goals as goal
 
 pub returns : goal.returns

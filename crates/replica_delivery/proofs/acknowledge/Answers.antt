@@ -1,8 +1,7 @@
 use mathlib.Core.Path.{refl}
-use borrow.Author.Tests.{le-ltb, lt-ltb, not-false, not-true}
+use borrow.Author.Tests.{le-ltb, lt-ltb}
 use Rattle.chain.specs.{is_member, table_of}
 use Rattle.protocol.specs.Delivery.{acknowledgement}
-use borrow.Author.Rules.{rules}
 use Rattle.replica_delivery.proofs.acknowledge.Goals as goal
 
 pub returns-then-not-is_quorum : goal.returns-then-not-is_quorum

@@ -1,4 +1,3 @@
-use borrow.Author.Rules.{rules}
 use Rattle.replica_delivery.proofs.answers.Goals as goal
 
 pub returns : goal.returns

@@ -1,8 +1,7 @@
 use mathlib.Core.Path.{refl}
-use borrow.Author.Tests.{eq-eqb, le-ltb, lt-ltb, ne_eqb, not-false, not-true}
+use borrow.Author.Tests.{eq-eqb, le-ltb, lt-ltb, ne_eqb}
 use Rattle.chain.specs.{is_member, is_tail, table_of}
 use Rattle.protocol.specs.Delivery.{chain_write}
-use borrow.Author.Rules.{rules}
 use Rattle.replica_delivery.proofs.chain_write.Goals as goal
 
 pub returns-then-n-place : goal.returns-then-n-place

@@ -1,6 +1,5 @@
 use borrow.Author.Tests.{eq-eqb, ne_eqb}
 use Rattle.protocol.specs.Delivery.{freshness}
-use borrow.Author.Rules.{rules}
 use Rattle.replica_delivery.proofs.compare.Goals as goal
 
 pub returns-then-carried-eq0 : goal.returns-then-carried-eq0

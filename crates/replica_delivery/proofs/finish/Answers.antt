@@ -1,9 +1,7 @@
 use Rattle.operations.proofs.Laws.{closing_shut}
 use mathlib.Core.Path.{sym, ◌∙◌}
 use mathlib.Core.Path.{refl}
-use borrow.Author.Tests.{not-false, not-true}
 use Rattle.protocol.specs.Delivery.{reply}
-use borrow.Author.Rules.{rules}
 use Rattle.replica_delivery.proofs.finish.Goals as goal
 
 pub returns-then-not-close : goal.returns-then-not-close

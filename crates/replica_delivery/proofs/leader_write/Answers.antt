@@ -1,6 +1,5 @@
 use mathlib.Core.Path.{refl}
 use Rattle.protocol.specs.Delivery.{leader_write}
-use borrow.Author.Rules.{rules}
 use Rattle.replica_delivery.proofs.leader_write.Goals as goal
 
 pub returns-then-accepts : goal.returns-then-accepts

@@ -1,7 +1,6 @@
-use borrow.Author.Tests.{le-ltb, lt-ltb, not-false, not-true}
+use borrow.Author.Tests.{le-ltb, lt-ltb}
 use Rattle.chain.specs.{is_member, is_read_replica, table_of}
 use Rattle.protocol.specs.Delivery.{normal_read}
-use borrow.Author.Rules.{rules}
 use Rattle.replica_delivery.proofs.normal_read.Goals as goal
 
 pub returns-then-n-place : goal.returns-then-n-place

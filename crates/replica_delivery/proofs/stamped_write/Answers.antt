@@ -1,6 +1,5 @@
 use mathlib.Core.Path.{refl}
 use Rattle.protocol.specs.Delivery.{stamped_write}
-use borrow.Author.Rules.{rules}
 use Rattle.replica_delivery.proofs.stamped_write.Goals as goal
 
 pub returns-then-is_quorum : goal.returns-then-is_quorum

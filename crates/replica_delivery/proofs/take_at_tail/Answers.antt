@@ -1,4 +1,3 @@
-use borrow.Author.Rules.{rules}
 use Rattle.replica_delivery.proofs.take_at_tail.Goals as goal
 
 pub returns : goal.returns

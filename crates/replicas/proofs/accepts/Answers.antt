@@ -1,6 +1,5 @@
-use borrow.Author.Tests.{le-leb, lt-leb, not-false, not-true}
+use borrow.Author.Tests.{le-leb, lt-leb}
 use Rattle.replicas.specs.Replicas.{accepts}
-use borrow.Author.Rules.{rules}
 use Rattle.replicas.proofs.accepts.Goals as goal
 
 pub returns-then-not-above : goal.returns-then-not-above

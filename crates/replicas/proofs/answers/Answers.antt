@@ -1,7 +1,6 @@
 use Rattle.lists.proofs.AllOf.{all_one}
 use borrow.Author.Tests.{eq-eqb, ne_eqb}
 use Rattle.replicas.specs.Replicas.{answers_direct}
-use borrow.Author.Rules.{rules}
 use Rattle.replicas.proofs.answers.Goals as goal
 
 pub returns-then-permitted-number : goal.returns-then-permitted-number

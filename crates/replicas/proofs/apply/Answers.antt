@@ -1,5 +1,4 @@
 use Rattle.replicas.specs.Replicas.{applying}
-use borrow.Author.Rules.{rules}
 use Rattle.replicas.proofs.apply.Goals as goal
 
 pub returns : goal.returns

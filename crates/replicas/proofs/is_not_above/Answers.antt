@@ -1,5 +1,4 @@
 use Rattle.replicas.specs.Replicas.{is_not_above}
-use borrow.Author.Rules.{rules}
 use Rattle.replicas.proofs.is_not_above.Goals as goal
 
 pub returns : goal.returns

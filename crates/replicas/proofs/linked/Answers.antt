@@ -1,6 +1,5 @@
 use native.Mathlib.Omega.{arith}
 use Rattle.replicas.specs.Replicas.{linked_writes}
-use borrow.Author.Rules.{rules}
 use Rattle.replicas.proofs.linked.Goals as goal
 
 pub returns-then-first-last : goal.returns-then-first-last

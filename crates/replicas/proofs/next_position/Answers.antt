@@ -1,6 +1,5 @@
 use borrow.Author.Tests.{le-ltb, lt-ltb}
 use Rattle.replicas.specs.Replicas.{next_position}
-use borrow.Author.Rules.{rules}
 use Rattle.replicas.proofs.next_position.Goals as goal
 
 pub returns-then-p-lt-LAST_POSITION : goal.returns-then-p-lt-LAST_POSITION

@@ -1,5 +1,4 @@
 use Rattle.replicas.specs.Replicas.{oldest}
-use borrow.Author.Rules.{rules}
 use Rattle.replicas.proofs.oldest.Goals as goal
 
 pub returns : goal.returns

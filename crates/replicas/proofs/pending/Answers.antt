@@ -1,7 +1,6 @@
 use native.Mathlib.Omega.{arith}
 use borrow.Author.Tests.{eq-eqb, ne_eqb}
 use Rattle.replicas.specs.Replicas.{pending_at}
-use borrow.Author.Rules.{rules}
 use Rattle.replicas.proofs.pending.Goals as goal
 
 pub returns-then-place-eq0 : goal.returns-then-place-eq0

@@ -1,5 +1,4 @@
 use Rattle.replicas.specs.Replicas.{taking}
-use borrow.Author.Rules.{rules}
 use Rattle.replicas.proofs.take.Goals as goal
 
 pub returns : goal.returns

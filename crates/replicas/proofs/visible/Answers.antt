@@ -1,5 +1,4 @@
 use Rattle.replicas.specs.Visible.{visible_count}
-use borrow.Author.Rules.{rules}
 use Rattle.replicas.proofs.visible.Goals as goal
 
 pub returns : goal.returns

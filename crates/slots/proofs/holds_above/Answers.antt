@@ -1,5 +1,4 @@
 use Rattle.slots.specs.{holds_above, counts_above}
-use borrow.Author.Rules.{rules}
 use Rattle.slots.proofs.holds_above.Goals as goal
 
 pub returns-then-holds : goal.returns-then-holds

@@ -1,5 +1,4 @@
 use Rattle.slots.specs.{is_completed}
-use borrow.Author.Rules.{rules}
 use Rattle.slots.proofs.is_completed.Goals as goal
 
 pub returns-then-above : goal.returns-then-above

@@ -1,5 +1,4 @@
 use Rattle.slots.specs.{is_free, counts_above}
-use borrow.Author.Rules.{rules}
 use Rattle.slots.proofs.is_free.Goals as goal
 
 pub returns-then-above : goal.returns-then-above

@@ -1,5 +1,4 @@
 use Rattle.stamp.specs.Stamps.{larger_of}
-use borrow.Author.Rules.{rules}
 use Rattle.stamp.proofs.larger.Goals as goal
 
 pub returns-then-above : goal.returns-then-above

@@ -1,6 +1,5 @@
 use mathlib.Core.Path.{refl}
 use Rattle.protocol.specs.Steps.{advancing}
-use borrow.Author.Rules.{rules}
 use Rattle.steps.proofs.advance.Goals as goal
 
 pub returns-then-is_quorum : goal.returns-then-is_quorum

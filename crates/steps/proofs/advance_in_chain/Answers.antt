@@ -2,7 +2,6 @@ use mathlib.Core.Path.{refl}
 use borrow.Author.Tests.{eq-eqb, le-ltb, lt-ltb, ne_eqb}
 use Rattle.chain.specs.{is_member, is_tail, table_of}
 use Rattle.protocol.specs.Steps.{chain_advancing}
-use borrow.Author.Rules.{rules}
 use Rattle.steps.proofs.advance_in_chain.Goals as goal
 
 pub returns-then-n-place : goal.returns-then-n-place

@@ -1,7 +1,6 @@
 use mathlib.Core.Path.{refl}
-use borrow.Author.Tests.{le-ltb, lt-ltb, not-false, not-true}
+use borrow.Author.Tests.{le-ltb, lt-ltb}
 use Rattle.protocol.specs.Steps.{copied}
-use borrow.Author.Rules.{rules}
 use Rattle.steps.proofs.copy.Goals as goal
 
 pub returns-then-not-is_of_context : goal.returns-then-not-is_of_context

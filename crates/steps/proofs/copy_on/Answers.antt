@@ -1,7 +1,5 @@
 use mathlib.Core.Path.{refl}
-use borrow.Author.Tests.{not-false, not-true}
 use Rattle.protocol.specs.Steps.{copying_on}
-use borrow.Author.Rules.{rules}
 use Rattle.steps.proofs.copy_on.Goals as goal
 
 pub returns-then-is_quorum : goal.returns-then-is_quorum

@@ -1,9 +1,7 @@
 use Rattle.operations.proofs.Laws.{closing_shut}
 use mathlib.Core.Path.{sym, ◌∙◌}
 use mathlib.Core.Path.{refl}
-use borrow.Author.Tests.{not-false, not-true}
 use Rattle.protocol.specs.Steps.{giving_up}
-use borrow.Author.Rules.{rules}
 use Rattle.steps.proofs.give_up.Goals as goal
 
 pub returns-then-not-close : goal.returns-then-not-close

@@ -1,6 +1,5 @@
 use mathlib.Core.Path.{refl}
 use Rattle.protocol.specs.Steps.{joining}
-use borrow.Author.Rules.{rules}
 use Rattle.steps.proofs.join.Goals as goal
 
 pub returns-then-is_quorum : goal.returns-then-is_quorum

@@ -1,7 +1,6 @@
 use mathlib.Core.Path.{refl}
 use borrow.Author.Tests.{le-leb, lt-leb}
 use Rattle.protocol.specs.Steps.{lost}
-use borrow.Author.Rules.{rules}
 use Rattle.steps.proofs.lose.Goals as goal
 
 pub returns-then-held-at : goal.returns-then-held-at

@@ -2,7 +2,6 @@ use mathlib.Core.Path.{refl}
 use borrow.Author.Tests.{le-leb, le-ltb, lt-leb, lt-ltb}
 use Rattle.chain.specs.{is_member}
 use Rattle.protocol.specs.Steps.{removing}
-use borrow.Author.Rules.{rules}
 use Rattle.steps.proofs.remove.Goals as goal
 
 pub returns-then-is_quorum : goal.returns-then-is_quorum

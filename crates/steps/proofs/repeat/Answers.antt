@@ -1,7 +1,6 @@
 use mathlib.Core.Path.{refl}
 use borrow.Author.Tests.{le-leb, lt-leb}
 use Rattle.protocol.specs.Steps.{repeated}
-use borrow.Author.Rules.{rules}
 use Rattle.steps.proofs.repeat.Goals as goal
 
 pub returns-then-held-at : goal.returns-then-held-at

@@ -1,7 +1,6 @@
 use mathlib.Core.Path.{refl}
 use borrow.Author.Tests.{le-leb, lt-leb}
 use Rattle.protocol.specs.Steps.{replacing}
-use borrow.Author.Rules.{rules}
 use Rattle.steps.proofs.replace.Goals as goal
 
 pub returns-then-number : goal.returns-then-number

@@ -1,5 +1,4 @@
 use Rattle.store.specs.{applied_by}
-use borrow.Author.Rules.{rules}
 use Rattle.store.proofs.applied.Goals as goal
 
 pub returns : goal.returns

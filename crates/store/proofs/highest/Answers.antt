@@ -1,5 +1,4 @@
 use Rattle.store.specs.{highest_of}
-use borrow.Author.Rules.{rules}
 use Rattle.store.proofs.highest.Goals as goal
 
 pub returns : goal.returns

@@ -1,5 +1,4 @@
 use Rattle.store.specs.{permitted_by}
-use borrow.Author.Rules.{rules}
 use Rattle.store.proofs.permitted.Goals as goal
 
 pub returns : goal.returns

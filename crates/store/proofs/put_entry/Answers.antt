@@ -1,5 +1,4 @@
 use Rattle.store.specs.{logged}
-use borrow.Author.Rules.{rules}
 use Rattle.store.proofs.put_entry.Goals as goal
 
 pub returns : goal.returns

@@ -1,5 +1,4 @@
 use Rattle.store.specs.{tabled}
-use borrow.Author.Rules.{rules}
 use Rattle.store.proofs.put_write.Goals as goal
 
 pub returns : goal.returns

@@ -1,5 +1,4 @@
 use Rattle.store.specs.{raised}
-use borrow.Author.Rules.{rules}
 use Rattle.store.proofs.raise.Goals as goal
 
 pub returns : goal.returns

@@ -1,5 +1,4 @@
 use Rattle.store.specs.{entry_at}
-use borrow.Author.Rules.{rules}
 use Rattle.store.proofs.read_entry.Goals as goal
 
 pub returns : goal.returns

@@ -1,5 +1,4 @@
 use Rattle.store.specs.{stamp_at}
-use borrow.Author.Rules.{rules}
 use Rattle.store.proofs.read_stamp.Goals as goal
 
 pub returns : goal.returns

@@ -1,5 +1,4 @@
 use Rattle.store.specs.{value_at}
-use borrow.Author.Rules.{rules}
 use Rattle.store.proofs.read_value.Goals as goal
 
 pub returns : goal.returns

@@ -1,6 +1,5 @@
 use mathlib.Core.Path.{refl}
 use Rattle.protocol.specs.Delivery.{completion}
-use borrow.Author.Rules.{rules}
 use Rattle.switch_delivery.proofs.complete.Goals as goal
 
 pub returns : goal.returns

@@ -1,6 +1,5 @@
 use borrow.Author.Tests.{eq-eqb, ne_eqb}
 use Rattle.protocol.specs.Delivery.{stamping}
-use borrow.Author.Rules.{rules}
 use Rattle.switch_delivery.proofs.stamp_on.Goals as goal
 
 pub returns-then-stamp-eq0 : goal.returns-then-stamp-eq0

@@ -1,8 +1,7 @@
-use borrow.Author.Tests.{eq-eqb, ne_eqb, not-false, not-true}
+use borrow.Author.Tests.{eq-eqb, ne_eqb}
 use Rattle.lists.proofs.AllOf.{all_one}
 use Rattle.protocol.specs.Reads.{is_unmarked, goes_directly}
 use Rattle.protocol.specs.Delivery.{switch_read}
-use borrow.Author.Rules.{rules}
 use Rattle.switch_delivery.proofs.switch_read.Goals as goal
 
 pub returns-then-not-is_direct : goal.returns-then-not-is_direct

@@ -1,7 +1,5 @@
 use mathlib.Core.Path.{refl}
-use borrow.Author.Tests.{not-false, not-true}
 use Rattle.protocol.specs.Delivery.{unstamped_write}
-use borrow.Author.Rules.{rules}
 use Rattle.switch_delivery.proofs.unstamped_write.Goals as goal
 
 pub returns-then-not-all_permit : goal.returns-then-not-all_permit

@@ -1,5 +1,5 @@
 -- What has moved so far: the packets after place `from` up to place i.
-use Rattle.std.proofs.Common.{◌+◌, ◌-◌, ◌≡◌, ◌≤◌, length}
+use Rattle.std.proofs.Common.{◌+◌, ◌-◌, ◌≡◌, ◌≤◌}
 use Rattle.lists.specs.{moves}
 use Rattle.waiting.specs.Waiting.{blank}
 use Rattle.waiting.proofs.close_up.Given as goal

@@ -1,7 +1,5 @@
 use mathlib.Core.Path.{refl, sym, ◌∙◌}
-use borrow.Author.Rules.{rules}
 use lib.ListN.{get_or-eq_default}
-use native.Mathlib.Omega.{arith}
 use Rattle.waiting.specs.Waiting.{look_at, blank}
 use Rattle.waiting.proofs.look.Goals as goal
 

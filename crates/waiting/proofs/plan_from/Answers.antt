@@ -1,7 +1,5 @@
 use mathlib.Core.Path.{sym, ◌∙◌}
 use native.Mathlib.Omega.{arith}
-use borrow.Author.Tests.{not-false, not-true}
-use borrow.Author.Rules.{rules}
 use Rattle.waiting.specs.Plans.{planned}
 use Rattle.waiting.proofs.Plans.{fits_places}
 use Rattle.waiting.proofs.plan_from.Goals as goal

@@ -1,6 +1,5 @@
 use mathlib.Core.Path.{sym, ◌∙◌}
 use native.Mathlib.Omega.{arith}
-use borrow.Author.Rules.{rules}
 use Rattle.waiting.specs.Plans.{plan_of}
 use Rattle.waiting.proofs.Plans.{left_taken}
 use Rattle.waiting.proofs.plan_of.Goals as goal

@@ -1,5 +1,4 @@
 use Rattle.waiting.specs.Waiting.{takes_out}
-use borrow.Author.Rules.{rules}
 use Rattle.waiting.proofs.takes_out.Goals as goal
 
 pub returns-then-e : goal.returns-then-e

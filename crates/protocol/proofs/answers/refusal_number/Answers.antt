@@ -1,4 +1,3 @@
-use borrow.Author.Rules.{rules}
 use Rattle.protocol.proofs.answers.refusal_number.Goals as goal
 
 pub returns-in-Format : goal.returns-in-Format

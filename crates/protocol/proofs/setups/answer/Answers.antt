@@ -1,5 +1,4 @@
 use Rattle.protocol.specs.Starts.{start_answer}
-use borrow.Author.Rules.{rules}
 use Rattle.protocol.proofs.setups.answer.Goals as goal
 
 pub returns-then-is_refused : goal.returns-then-is_refused

@@ -1,6 +1,5 @@
 use Rattle.protocol.specs.Starts.{start_refused}
 use borrow.Author.Tests.{eq-eqb, ne_eqb}
-use borrow.Author.Rules.{rules}
 use Rattle.protocol.proofs.setups.quorum_refused.Goals as goal
 
 pub returns-then-n-eq3 : goal.returns-then-n-eq3

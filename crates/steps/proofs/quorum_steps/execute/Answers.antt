@@ -1,7 +1,5 @@
 use mathlib.Core.Path.{refl}
-use borrow.Author.Tests.{not-false, not-true}
 use Rattle.protocol.specs.Steps.{executing_on}
-use borrow.Author.Rules.{rules}
 use Rattle.steps.proofs.quorum_steps.execute.Goals as goal
 
 pub returns-then-not-is_quorum : goal.returns-then-not-is_quorum

@@ -1,4 +1,3 @@
-use borrow.Author.Rules.{rules}
 use Rattle.switch.proofs.Switch.complete.Goals as goal
 
 pub returns : goal.returns

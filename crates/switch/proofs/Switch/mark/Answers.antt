@@ -1,4 +1,3 @@
-use borrow.Author.Rules.{rules}
 use Rattle.switch.proofs.Switch.mark.Goals as goal
 
 pub returns : goal.returns

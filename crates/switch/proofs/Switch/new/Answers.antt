@@ -1,6 +1,5 @@
 use mathlib.Core.Path.{refl}
 use Rattle.switch.specs.DirtySet.{new_switch}
-use borrow.Author.Rules.{rules}
 use Rattle.switch.proofs.Switch.new.Goals as goal
 
 pub returns : goal.returns

@@ -1,5 +1,4 @@
 use Rattle.switch.specs.DirtySet.{cleared_at}
-use borrow.Author.Rules.{rules}
 use Rattle.switch.proofs.cells.clear.Goals as goal
 
 pub returns-then-is_completed : goal.returns-then-is_completed

@@ -1,4 +1,3 @@
-use borrow.Author.Rules.{rules}
 use Rattle.switch.proofs.cells.clear_marks.Goals as goal
 
 pub returns : goal.returns

@@ -1,5 +1,4 @@
 use Rattle.switch.specs.DirtySet.{committing}
-use borrow.Author.Rules.{rules}
 use Rattle.switch.proofs.cells.commit.Goals as goal
 
 pub returns-then-own : goal.returns-then-own

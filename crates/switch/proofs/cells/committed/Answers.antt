@@ -1,5 +1,4 @@
 use Rattle.switch.specs.Numbers.{committed_in}
-use borrow.Author.Rules.{rules}
 use Rattle.switch.proofs.cells.committed.Goals as goal
 
 pub returns : goal.returns

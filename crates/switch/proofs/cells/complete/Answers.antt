@@ -1,5 +1,4 @@
 use Rattle.switch.specs.DirtySet.{completed}
-use borrow.Author.Rules.{rules}
 use Rattle.switch.proofs.cells.complete.Goals as goal
 
 pub returns : goal.returns

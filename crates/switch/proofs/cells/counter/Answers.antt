@@ -1,6 +1,5 @@
 use mathlib.Core.Path.{refl}
 use Rattle.switch.specs.Numbers.{counter_in}
-use borrow.Author.Rules.{rules}
 use Rattle.switch.proofs.cells.counter.Goals as goal
 
 pub returns : goal.returns

@@ -1,5 +1,4 @@
 use Rattle.switch.specs.DirtySet.{free_slot}
-use borrow.Author.Rules.{rules}
 use Rattle.switch.proofs.cells.free_slot.Goals as goal
 
 pub returns-then-is_free : goal.returns-then-is_free

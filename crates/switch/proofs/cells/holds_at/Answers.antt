@@ -1,4 +1,3 @@
-use borrow.Author.Rules.{rules}
 use Rattle.switch.proofs.cells.holds_at.Goals as goal
 
 pub returns : goal.returns

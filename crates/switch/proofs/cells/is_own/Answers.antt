@@ -1,5 +1,4 @@
 use Rattle.switch.specs.DirtySet.{is_own}
-use borrow.Author.Rules.{rules}
 use Rattle.switch.proofs.cells.is_own.Goals as goal
 
 pub returns : goal.returns

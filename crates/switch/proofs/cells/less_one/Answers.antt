@@ -1,7 +1,6 @@
 use mathlib.Core.Path.{refl}
 use native.Mathlib.Omega.{arith}
 use Rattle.switch.specs.DirtySet.{less_one}
-use borrow.Author.Rules.{rules}
 use Rattle.switch.proofs.cells.less_one.Goals as goal
 
 pub returns-then-n-eq0 : goal.returns-then-n-eq0

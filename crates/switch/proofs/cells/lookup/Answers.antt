@@ -1,5 +1,4 @@
 use Rattle.switch.specs.DirtySet.{looked_up, mark_above}
-use borrow.Author.Rules.{rules}
 use Rattle.switch.proofs.cells.lookup.Goals as goal
 
 pub returns-then-counts_at : goal.returns-then-counts_at

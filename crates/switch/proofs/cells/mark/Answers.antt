@@ -1,7 +1,6 @@
 use mathlib.Core.Path.{refl}
 use borrow.Author.Tests.{eq-eqb, le-ltb, lt-ltb, ne_eqb}
 use Rattle.switch.specs.DirtySet.{marked, stamp_for, can_mark, marking, next_stamp}
-use borrow.Author.Rules.{rules}
 use Rattle.switch.proofs.cells.mark.Goals as goal
 
 pub returns-then-counter : goal.returns-then-counter

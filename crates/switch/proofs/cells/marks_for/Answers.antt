@@ -1,6 +1,5 @@
 use Rattle.slots.specs.{counts_above}
 use Rattle.switch.specs.DirtySet.{marks_for}
-use borrow.Author.Rules.{rules}
 use Rattle.switch.proofs.cells.marks_for.Goals as goal
 
 pub returns : goal.returns

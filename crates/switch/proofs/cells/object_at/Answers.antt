@@ -1,6 +1,5 @@
 use mathlib.Core.Path.{refl}
 use Rattle.switch.specs.Numbers.{slot_object}
-use borrow.Author.Rules.{rules}
 use Rattle.switch.proofs.cells.object_at.Goals as goal
 
 pub returns : goal.returns

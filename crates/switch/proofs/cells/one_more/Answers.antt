@@ -1,7 +1,6 @@
 use mathlib.Core.Path.{refl}
 use borrow.Author.Tests.{eq-eqb, ne_eqb}
 use Rattle.switch.specs.DirtySet.{one_more}
-use borrow.Author.Rules.{rules}
 use Rattle.switch.proofs.cells.one_more.Goals as goal
 
 pub returns-then-n-eq-LAST_MARKS : goal.returns-then-n-eq-LAST_MARKS

@@ -1,5 +1,4 @@
 use Rattle.switch.specs.DirtySet.{raising}
-use borrow.Author.Rules.{rules}
 use Rattle.switch.proofs.cells.raise.Goals as goal
 
 pub returns : goal.returns

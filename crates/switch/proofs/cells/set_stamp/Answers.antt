@@ -1,5 +1,4 @@
 use Rattle.stamp.specs.Stamps.{set_stamp}
-use borrow.Author.Rules.{rules}
 use Rattle.switch.proofs.cells.set_stamp.Goals as goal
 
 pub returns : goal.returns

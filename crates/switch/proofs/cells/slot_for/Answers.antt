@@ -1,5 +1,4 @@
 use Rattle.switch.specs.DirtySet.{slot_for}
-use borrow.Author.Rules.{rules}
 use Rattle.switch.proofs.cells.slot_for.Goals as goal
 
 pub returns-then-holds_at : goal.returns-then-holds_at

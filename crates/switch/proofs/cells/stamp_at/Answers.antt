@@ -1,5 +1,4 @@
 use Rattle.switch.specs.Numbers.{slot_stamp}
-use borrow.Author.Rules.{rules}
 use Rattle.switch.proofs.cells.stamp_at.Goals as goal
 
 pub returns : goal.returns

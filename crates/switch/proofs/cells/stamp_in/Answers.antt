@@ -1,5 +1,4 @@
 use Rattle.stamp.specs.Stamps.{stamp_in}
-use borrow.Author.Rules.{rules}
 use Rattle.switch.proofs.cells.stamp_in.Goals as goal
 
 pub returns : goal.returns
