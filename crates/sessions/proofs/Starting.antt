@@ -1,15 +1,14 @@
 -- The records of a start: a tag of a start, a length of its own, and the number of replicas.
 use mathlib.Core.Path.{◌≡◌, refl, sym, ap, subst, ◌∙◌}
-use mathlib.Core.Bool.{Bool, true, false, cond}
-use mathlib.Core.List.{List, [], ◌∷◌}
-use Prim.Native.Nat.{ℕ, zero, suc, ◌+◌, ◌*◌, ◌≤◌}
+use mathlib.Core.Bool.{Bool, true, false}
+use mathlib.Core.List.{List}
+use Prim.Native.Nat.{ℕ, zero, suc, ◌+◌, ◌≤◌}
 use native.Mathlib.Omega.{arith}
 use lib.Dec.{leb, eqb}
 use lib.ListN.{length, take, drop}
 use lib.Seq.{get_or-take, get_or-drop}
 use borrow.Author.Tests.{eqb-true}
 use Rattle.lists.proofs.Tests.{untrue, by_test, both}
-use Rattle.protocol.specs.declared.Setup.{Setup}
 use Rattle.protocol.specs.declared.Setup.TheVariants.{Missing, Chain, Quorum}
 use Rattle.protocol.specs.declared.Step.{Step}
 use Rattle.protocol.specs.Starts.{setup_of}

@@ -2,7 +2,6 @@ use mathlib.Core.Path.{refl}
 use borrow.Author.Tests.{le-ltb, lt-ltb}
 use Rattle.protocol.specs.Steps.{decided_in}
 use Rattle.packet_delivery.proofs.Leaves.{leaves}
-use borrow.Author.Rules.{rules}
 use Rattle.dispatch.proofs.decide.Goals as goal
 
 pub returns-then-is_malformed : goal.returns-then-is_malformed

@@ -1,7 +1,6 @@
 use mathlib.Core.Path.{refl}
 use Rattle.protocol.specs.Steps.{decided}
 use Rattle.packet_delivery.proofs.Leaves.{leaves}
-use borrow.Author.Rules.{rules}
 use Rattle.dispatch.proofs.decide_step.Goals as goal
 
 pub returns-in-Start : goal.returns-in-Start

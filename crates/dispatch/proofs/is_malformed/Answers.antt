@@ -2,7 +2,6 @@ use mathlib.Core.Path.{sym}
 use borrow.Author.Tests.{lt-leb}
 use Rattle.protocol.specs.Steps.{is_malformed}
 use Rattle.dispatch.proofs.Variants.{well_formed}
-use borrow.Author.Rules.{rules}
 use Rattle.dispatch.proofs.is_malformed.Goals as goal
 
 pub returns-in-Start : goal.returns-in-Start

@@ -1,4 +1,4 @@
-use Rattle.std.proofs.Common.{◌∙◌, arith, rules}
+use Rattle.std.proofs.Common.{◌∙◌, arith}
 use Rattle.draws.specs.{drawn}
 use Rattle.draws.proofs.draw.Goals as goal
 

@@ -1,5 +1,4 @@
 use Rattle.draws.specs.{kind_from}
-use Rattle.std.proofs.Common.{rules}
 use Rattle.draws.proofs.kind_from.Goals as goal
 
 pub returns : goal.returns

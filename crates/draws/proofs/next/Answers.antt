@@ -1,5 +1,4 @@
 use Rattle.draws.specs.{step_drawn, seed_after}
-use Rattle.std.proofs.Common.{rules}
 use Rattle.draws.proofs.next.Goals as goal
 
 pub returns-then-has_two : goal.returns-then-has_two

@@ -1,4 +1,4 @@
-use Rattle.std.proofs.Common.{◌∙◌, arith, rules}
+use Rattle.std.proofs.Common.{◌∙◌, arith}
 use Rattle.draws.proofs.Drawn.{rest_room, run_written}
 use Rattle.draws.proofs.put.Goals as goal
 

@@ -1,7 +1,6 @@
-use Rattle.std.proofs.Common.{◌≡◌, ℕ, ◌+◌, ◌-◌, ◌≤◌, length, ap, ◌∙◌, arith, rules}
+use Rattle.std.proofs.Common.{◌≡◌, ◌+◌, ◌-◌, ◌≤◌, length, ap, ◌∙◌, arith, rules}
 use Rattle.protocol.specs.declared.Step.{Step}
 use Rattle.records.specs.Records.{record_of}
-use Rattle.draws.specs.{steps_drawn, records_of, most_steps}
 use Rattle.draws.proofs.Drawn.{steps_longer, steps_none, steps_short}
 use Rattle.draws.proofs.size.Invariants.{bytes}
 use Rattle.draws.proofs.size.Goals as goal

@@ -1,9 +1,6 @@
 -- The loop's invariant: what is counted, and what the steps that are left have, is what all of them have.
-use Rattle.std.proofs.Common.{◌≡◌, ℕ, ◌+◌, ◌-◌, ◌≤◌, length, ap, ◌∙◌, arith, rules}
-use Rattle.protocol.specs.declared.Step.{Step}
-use Rattle.records.specs.Records.{record_of}
+use Rattle.std.proofs.Common.{◌≡◌, ℕ, ◌+◌, ◌≤◌, length}
 use Rattle.draws.specs.{steps_drawn, records_of, most_steps}
-use Rattle.draws.proofs.Drawn.{steps_longer, steps_none, steps_short}
 use Rattle.draws.proofs.size.Given as goal
 
 abbrev pub bytes : ℕ → ℕ → ℕ

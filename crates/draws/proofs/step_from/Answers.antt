@@ -1,4 +1,4 @@
-use Rattle.std.proofs.Common.{ℕ, rules, ne_eqb}
+use Rattle.std.proofs.Common.{ℕ, ne_eqb}
 use Rattle.draws.specs.{step_from}
 use Rattle.draws.proofs.step_from.Goals as goal
 

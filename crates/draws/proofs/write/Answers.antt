@@ -1,6 +1,5 @@
-use Rattle.std.proofs.Common.{◌≡◌, ℕ, ◌+◌, ◌≤◌, List, length, sym, refl, ap, ◌∙◌, arith, rules}
+use Rattle.std.proofs.Common.{◌+◌, ◌≤◌, length, sym, refl, ap, ◌∙◌, arith, rules}
 use Rattle.lines.specs.Text.{pasted}
-use Rattle.draws.specs.{steps_drawn, records_of}
 use Rattle.draws.proofs.Drawn.{steps_none, steps_short, turn_written, turn_size, turn_length, pasted_none}
 use Rattle.draws.proofs.write.Invariants.{records}
 use Rattle.draws.proofs.write.Goals as goal

@@ -1,8 +1,7 @@
 -- The loop's invariant: with the records of the steps that are left, the buffer would hold those of all.
-use Rattle.std.proofs.Common.{◌≡◌, ℕ, ◌+◌, ◌≤◌, List, length, sym, refl, ap, ◌∙◌, arith, rules}
+use Rattle.std.proofs.Common.{◌≡◌, ℕ, ◌+◌, ◌≤◌, List, length}
 use Rattle.lines.specs.Text.{pasted}
 use Rattle.draws.specs.{steps_drawn, records_of}
-use Rattle.draws.proofs.Drawn.{steps_none, steps_short, turn_written, turn_size, turn_length, pasted_none}
 use Rattle.draws.proofs.write.Given as goal
 
 abbrev pub records : ℕ → ℕ → List ℕ

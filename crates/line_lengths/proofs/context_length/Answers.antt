@@ -1,6 +1,5 @@
 use native.Mathlib.Omega.{arith}
 use Rattle.line_lengths.proofs.Laws.{context_length}
-use borrow.Author.Rules.{rules}
 use Rattle.line_lengths.proofs.context_length.Goals as goal
 
 pub returns : goal.returns

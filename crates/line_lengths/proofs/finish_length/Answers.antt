@@ -2,7 +2,6 @@ use Rattle.line_lengths.proofs.Laws.{finish_length, old_word, new_word, no_word}
 use native.Mathlib.Omega.{arith}
 use mathlib.Core.Path.{ap}
 use lib.ListN.{length}
-use borrow.Author.Rules.{rules}
 use Rattle.line_lengths.proofs.finish_length.Goals as goal
 
 pub returns-then-freshness-eq-OLD : goal.returns-then-freshness-eq-OLD

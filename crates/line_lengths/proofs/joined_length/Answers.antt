@@ -1,12 +1,11 @@
 use mathlib.Core.Path.{◌≡◌, sym, ap, ◌∙◌}
-use Prim.Native.Nat.{◌+◌, ◌-◌, ◌≤◌}
+use Prim.Native.Nat.{◌-◌}
 use native.Mathlib.Omega.{arith}
 use lib.ListN.{length}
 use Rattle.contexts.specs.{place_of, size_of}
-use Rattle.line_lengths.specs.Lines.{decimal, later_values, joined, places}
+use Rattle.line_lengths.specs.Lines.{later_values, joined, places}
 use Rattle.line_lengths.proofs.Laws.{later_parts, later_length, joined_parts, joined_length}
 use Rattle.line_lengths.proofs.Numbers.{decimal_places, decimal_length}
-use borrow.Author.Rules.{rules}
 use Rattle.line_lengths.proofs.joined_length.Goals as goal
 
 pub loop-i-init : goal.loop-i-init

@@ -1,13 +1,9 @@
 -- The loop's invariant: as many bytes as the values before place i have, with their commas.
-use mathlib.Core.Path.{◌≡◌, sym, ap, ◌∙◌}
+use mathlib.Core.Path.{◌≡◌}
 use Prim.Native.Nat.{◌+◌, ◌-◌, ◌≤◌}
-use native.Mathlib.Omega.{arith}
 use lib.ListN.{length}
-use Rattle.contexts.specs.{place_of, size_of}
-use Rattle.line_lengths.specs.Lines.{decimal, later_values, joined, places}
-use Rattle.line_lengths.proofs.Laws.{later_parts, later_length, joined_parts, joined_length}
-use Rattle.line_lengths.proofs.Numbers.{decimal_places, decimal_length}
-use borrow.Author.Rules.{rules}
+use Rattle.contexts.specs.{size_of}
+use Rattle.line_lengths.specs.Lines.{decimal, later_values}
 use Rattle.line_lengths.proofs.joined_length.Given as goal
 
 abbrev pub invariant-loop-i : goal.invariant-loop-i

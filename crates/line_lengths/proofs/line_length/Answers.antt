@@ -4,7 +4,6 @@ use Prim.Native.Nat.{ℕ}
 use mathlib.Core.Path.{ap, ◌∙◌}
 use Rattle.line_lengths.proofs.Laws.{done_length, finished_length, finished_context_length}
 use native.Mathlib.Omega.{arith}
-use borrow.Author.Rules.{rules}
 use Rattle.line_lengths.proofs.line_length.Goals as goal
 
 pub returns-in-Done : goal.returns-in-Done

@@ -1,7 +1,6 @@
 use mathlib.Core.Path.{sym, ap, ◌∙◌}
 use Prim.Native.Nat.{ℕ, ◌+◌}
 use native.Mathlib.Omega.{arith}
-use borrow.Author.Rules.{rules}
 use Rattle.line_lengths.proofs.Numbers.{long_short, long_parts, places_ten}
 use Rattle.line_lengths.proofs.long_digits_of.Goals as goal
 

@@ -1,6 +1,5 @@
 use Rattle.line_lengths.proofs.Laws.{ok_length}
 use native.Mathlib.Omega.{arith}
-use borrow.Author.Rules.{rules}
 use Rattle.line_lengths.proofs.ok_length.Goals as goal
 
 pub returns : goal.returns

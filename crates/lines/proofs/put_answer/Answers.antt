@@ -3,7 +3,6 @@ use Rattle.line_lengths.proofs.Laws.{answer_length}
 use Rattle.lines.proofs.Text.{put_room, put_short, has_room_lem, no_room}
 use native.Mathlib.Omega.{arith}
 use mathlib.Core.Path.{sym, ◌∙◌}
-use borrow.Author.Rules.{rules}
 use Rattle.lines.proofs.put_answer.Goals as goal
 
 pub put_line-requires : goal.put_line-requires

@@ -4,7 +4,6 @@ use Rattle.line_lengths.specs.Lines.{decimal, joined, freshness_end}
 use Rattle.protocol.specs.Answers.{no_freshness}
 use Rattle.line_lengths.proofs.Laws.{context_parts}
 use Rattle.lines.proofs.Text.{Room, room_first, room_then, puts_then}
-use borrow.Author.Rules.{rules}
 use Rattle.lines.proofs.put_context.Goals as goal
 
 pub put_number-at-requires : goal.put_number-at-requires

@@ -4,7 +4,6 @@ use Rattle.line_lengths.specs.Lines.{ok_start, freshness_end, line_of}
 use Rattle.protocol.specs.Answers.{no_freshness}
 use Rattle.line_lengths.proofs.Laws.{done_length, none_length}
 use Rattle.lines.proofs.Text.{Room, room_first, room_then, puts_then}
-use borrow.Author.Rules.{rules}
 use Rattle.lines.proofs.put_done.Goals as goal
 
 pub put_ok-at-requires : goal.put_ok-at-requires

@@ -3,7 +3,6 @@ use native.Mathlib.Omega.{arith}
 use Rattle.line_lengths.specs.Lines.{decimal, freshness_end}
 use Rattle.line_lengths.proofs.Laws.{finish_parts}
 use Rattle.lines.proofs.Text.{Room, room_first, room_then, puts_then}
-use borrow.Author.Rules.{rules}
 use Rattle.lines.proofs.put_finish.Goals as goal
 
 pub put_number-at-requires : goal.put_number-at-requires

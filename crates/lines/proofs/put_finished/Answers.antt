@@ -2,7 +2,6 @@ use Rattle.line_lengths.specs.Lines.{line_of}
 use Rattle.lines.proofs.Text.{puts_then}
 use Rattle.line_lengths.proofs.Laws.{finished_length}
 use native.Mathlib.Omega.{arith}
-use borrow.Author.Rules.{rules}
 use Rattle.lines.proofs.put_finished.Goals as goal
 
 pub put_ok-at-requires : goal.put_ok-at-requires

@@ -1,5 +1,4 @@
 use Rattle.line_lengths.proofs.Laws.{old_word, new_word, no_word}
-use borrow.Author.Rules.{rules}
 use Rattle.lines.proofs.put_freshness.Goals as goal
 
 pub put_four-requires : goal.put_four-requires

@@ -1,14 +1,12 @@
 use mathlib.Core.Path.{◌≡◌, ap, ◌∙◌}
 use mathlib.Core.List.{◌∷◌, ◌++◌}
-use Prim.Native.Nat.{◌+◌, ◌-◌, ◌≤◌}
+use Prim.Native.Nat.{◌-◌}
 use native.Mathlib.Omega.{arith}
 use lib.ListN.{length}
 use Rattle.contexts.specs.{size_of}
 use Rattle.line_lengths.specs.Lines.{decimal, later_values, joined}
 use Rattle.line_lengths.proofs.Laws.{joined_parts, later_more, later_room}
-use Rattle.lines.specs.Text.{Puts}
 use Rattle.lines.proofs.Text.{puts_then, puts_none}
-use borrow.Author.Rules.{rules}
 use Rattle.lines.proofs.put_joined.Goals as goal
 
 pub put_number-end-requires : goal.put_number-end-requires

@@ -1,15 +1,10 @@
 -- The loop's invariant: the values before place i are put, with their commas, and there is room for all.
-use mathlib.Core.Path.{◌≡◌, ap, ◌∙◌}
-use mathlib.Core.List.{◌∷◌, ◌++◌}
+use mathlib.Core.Path.{◌≡◌}
 use Prim.Native.Nat.{◌+◌, ◌-◌, ◌≤◌}
-use native.Mathlib.Omega.{arith}
 use lib.ListN.{length}
 use Rattle.contexts.specs.{size_of}
-use Rattle.line_lengths.specs.Lines.{decimal, later_values, joined}
-use Rattle.line_lengths.proofs.Laws.{joined_parts, later_more, later_room}
+use Rattle.line_lengths.specs.Lines.{later_values}
 use Rattle.lines.specs.Text.{Puts}
-use Rattle.lines.proofs.Text.{puts_then, puts_none}
-use borrow.Author.Rules.{rules}
 use Rattle.lines.proofs.put_joined.Given as goal
 
 abbrev pub invariant-loop-i : goal.invariant-loop-i

@@ -1,5 +1,4 @@
 use Rattle.line_lengths.specs.Lines.{line_of}
-use borrow.Author.Rules.{rules}
 use Rattle.lines.proofs.put_line.Goals as goal
 
 pub put_done-requires : goal.put_done-requires

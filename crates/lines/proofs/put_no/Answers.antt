@@ -3,7 +3,6 @@ use native.Mathlib.Omega.{arith}
 use Rattle.line_lengths.specs.Lines.{decimal, long_decimal, no_line}
 use Rattle.line_lengths.proofs.Laws.{no_parts}
 use Rattle.lines.proofs.Text.{Room, room_first, room_then, puts_then}
-use borrow.Author.Rules.{rules}
 use Rattle.lines.proofs.put_no.Goals as goal
 
 pub put_record_number-at-requires : goal.put_record_number-at-requires

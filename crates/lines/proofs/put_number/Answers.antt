@@ -1,5 +1,4 @@
 use native.Mathlib.Omega.{arith}
-use borrow.Author.Rules.{rules}
 use Rattle.line_lengths.specs.Lines.{decimal}
 use Rattle.line_lengths.proofs.Numbers.{decimal_places, decimal_one}
 use Rattle.lines.proofs.put_number.Goals as goal

@@ -3,7 +3,6 @@ use native.Mathlib.Omega.{arith}
 use Rattle.line_lengths.specs.Lines.{decimal, long_decimal}
 use Rattle.line_lengths.proofs.Laws.{ok_parts}
 use Rattle.lines.proofs.Text.{Room, room_first, room_then, puts_then}
-use borrow.Author.Rules.{rules}
 use Rattle.lines.proofs.put_ok.Goals as goal
 
 pub put_record_number-at-requires : goal.put_record_number-at-requires

@@ -1,5 +1,4 @@
 use native.Mathlib.Omega.{arith}
-use borrow.Author.Rules.{rules}
 use Rattle.line_lengths.specs.Lines.{long_decimal}
 use Rattle.line_lengths.proofs.Numbers.{long_decimal_places}
 use Rattle.lines.proofs.put_record_number.Goals as goal

@@ -2,7 +2,6 @@ use Rattle.line_lengths.specs.Lines.{no_line}
 use Rattle.lines.proofs.Text.{put_room, put_short, has_room_lem, no_room}
 use native.Mathlib.Omega.{arith}
 use mathlib.Core.Path.{sym, ◌∙◌}
-use borrow.Author.Rules.{rules}
 use Rattle.lines.proofs.put_refusal.Goals as goal
 
 pub put_no-requires : goal.put_no-requires

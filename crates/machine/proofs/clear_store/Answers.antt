@@ -1,4 +1,3 @@
-use borrow.Author.Rules.{rules}
 use Rattle.machine.proofs.clear_store.Goals as goal
 
 pub returns-in-Missing : goal.returns-in-Missing

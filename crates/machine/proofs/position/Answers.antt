@@ -1,6 +1,5 @@
 use Rattle.protocol.specs.Steps.{position_of}
 use Rattle.protocol.proofs.Variants.{no_position}
-use borrow.Author.Rules.{rules}
 use Rattle.machine.proofs.position.Goals as goal
 
 pub returns-in-Deliver : goal.returns-in-Deliver

@@ -1,6 +1,5 @@
 use mathlib.Core.Path.{refl}
 use Rattle.protocol.specs.Steps.{start_switch, start_store, start_opens}
-use borrow.Author.Rules.{rules}
 use Rattle.machine.proofs.start.Goals as goal
 
 pub returns-then-is_refused : goal.returns-then-is_refused

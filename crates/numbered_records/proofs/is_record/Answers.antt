@@ -1,6 +1,5 @@
-use borrow.Author.Tests.{le-leb, lt-leb, not-false, not-true}
+use borrow.Author.Tests.{le-leb, lt-leb}
 use Rattle.numbered_records.specs.{is_record}
-use borrow.Author.Rules.{rules}
 use Rattle.numbered_records.proofs.is_record.Goals as goal
 
 pub returns-then-not-has_numbers : goal.returns-then-not-has_numbers

@@ -1,5 +1,4 @@
 use Rattle.numbered_records.specs.{objects_from}
-use borrow.Author.Rules.{rules}
 use Rattle.numbered_records.proofs.objects_from.Goals as goal
 
 pub returns : goal.returns

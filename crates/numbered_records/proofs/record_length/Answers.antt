@@ -2,7 +2,6 @@ use mathlib.Core.List.{List, [], ◌∷◌}
 use Prim.Native.Nat.{ℕ, zero, suc, ◌+◌, ◌≤◌}
 use native.Mathlib.Omega.{arith}
 use lib.ListN.{get_or}
-use borrow.Author.Tests.{not-false, not-true}
 use Rattle.numbered_records.specs.{record_size}
 use Rattle.records.specs.Records.{lengths, content_length}
 use borrow.Author.Rules.{rules}

@@ -1,7 +1,6 @@
 use Prim.Native.Nat.{ℕ}
 use borrow.Author.Tests.{ne_eqb}
 use Rattle.numbered_records.specs.{step_from}
-use borrow.Author.Rules.{rules}
 use Rattle.numbered_records.proofs.step_from.Goals as goal
 
 -- no kind is left

@@ -1,6 +1,5 @@
 use borrow.Author.Tests.{le-leb, lt-leb}
 use Rattle.numbered_records.specs.{context_refusal, context_buffer}
-use borrow.Author.Rules.{rules}
 use Rattle.numbered_records.proofs.write_context.Goals as goal
 
 pub returns-then-objects-gt8 : goal.returns-then-objects-gt8

@@ -1,6 +1,4 @@
-use borrow.Author.Tests.{not-true, not-false}
 use Rattle.numbered_records.specs.{record_refusal, record_buffer}
-use borrow.Author.Rules.{rules}
 use Rattle.numbered_records.proofs.write_record.Goals as goal
 
 pub returns-then-not-is_record : goal.returns-then-not-is_record

@@ -1,4 +1,3 @@
-use borrow.Author.Rules.{rules}
 use Rattle.numbered_records.proofs.write_step.Goals as goal
 
 pub returns-in-Bytes : goal.returns-in-Bytes

@@ -1,5 +1,4 @@
 use Rattle.records.specs.Records.{four_at}
-use borrow.Author.Rules.{rules}
 use Rattle.reader.proofs.four_at.Goals as goal
 
 pub returns : goal.returns

@@ -1,5 +1,4 @@
 use Rattle.records.specs.Records.{in_place}
-use borrow.Author.Rules.{rules}
 use Rattle.reader.proofs.in_place.Goals as goal
 
 pub returns-then-first : goal.returns-then-first

@@ -1,6 +1,5 @@
 use Rattle.records.specs.Records.{is_start}
 use borrow.Author.Tests.{eq-eqb, ne_eqb}
-use borrow.Author.Rules.{rules}
 use Rattle.reader.proofs.is_start.Goals as goal
 
 pub returns-then-kind-eq0 : goal.returns-then-kind-eq0

@@ -1,6 +1,5 @@
 use borrow.Author.Tests.{eq-eqb, ne_eqb, le-leb, lt-leb}
 use Rattle.records.specs.Records.{next_at}
-use borrow.Author.Rules.{rules}
 use Rattle.reader.proofs.next_at.Goals as goal
 
 pub returns-then-at-eq0 : goal.returns-then-at-eq0

@@ -1,4 +1,3 @@
-use borrow.Author.Rules.{rules}
 use Rattle.reader.proofs.next_of.Goals as goal
 
 pub returns-then-in_place : goal.returns-then-in_place

@@ -1,5 +1,4 @@
 use Rattle.records.specs.Records.{objects_in}
-use borrow.Author.Rules.{rules}
 use Rattle.reader.proofs.objects_in.Goals as goal
 
 pub returns : goal.returns

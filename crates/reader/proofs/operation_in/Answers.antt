@@ -1,5 +1,4 @@
 use Rattle.records.specs.Records.{operation_in}
-use borrow.Author.Rules.{rules}
 use Rattle.reader.proofs.operation_in.Goals as goal
 
 pub returns-then-is_short_give_up : goal.returns-then-is_short_give_up

@@ -1,7 +1,6 @@
 use mathlib.Core.Path.{sym, ◌∙◌}
-use borrow.Author.Tests.{eq-eqb, ne_eqb, leb-true, not-true, not-false}
+use borrow.Author.Tests.{eq-eqb, ne_eqb, leb-true}
 use Rattle.records.specs.Records.{record_at}
-use borrow.Author.Rules.{rules}
 use Rattle.reader.proofs.record_at.Goals as goal
 
 pub returns-then-not-within : goal.returns-then-not-within

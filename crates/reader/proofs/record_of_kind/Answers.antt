@@ -1,8 +1,5 @@
 use native.Mathlib.Nat.{add-sub_cancel_left}
-use mathlib.Core.Path.{sym, ◌∙◌}
-use borrow.Author.Tests.{leb-true, not-true, not-false}
 use Rattle.records.specs.Records.{record_of_kind}
-use borrow.Author.Rules.{rules}
 use Rattle.reader.proofs.record_of_kind.Goals as goal
 
 pub returns-then-not-is_length : goal.returns-then-not-is_length

@@ -1,7 +1,6 @@
 use Prim.Native.Nat.{ℕ}
 use borrow.Author.Tests.{ne_eqb}
 use Rattle.records.specs.Records.{step_of}
-use borrow.Author.Rules.{rules}
 use Rattle.reader.proofs.step_of.Goals as goal
 
 -- no kind is left

@@ -1,10 +1,9 @@
-use mathlib.Core.Path.{◌≡◌, sym, ap, ◌∙◌}
+use mathlib.Core.Path.{◌≡◌, ap}
 use mathlib.Core.List.{List}
 use Prim.Native.Nat.{ℕ, ◌-◌}
 use Rattle.waiting.specs.declared.Packet.{Packet}
-use Rattle.waiting.specs.Waiting.{waiting_list}
 use Rattle.protocol.specs.declared.Stepped.{Stepped}
-use Rattle.protocol.specs.Steps.{Machine, after, stepped_by}
+use Rattle.protocol.specs.Steps.{after, stepped_by}
 use Rattle.turns.specs.declared.Ran.{Ran}
 use Rattle.turns.specs.declared.Run.{Run}
 use Rattle.turns.specs.declared.Turn.{Turn}

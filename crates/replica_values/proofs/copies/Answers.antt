@@ -1,5 +1,4 @@
 use Rattle.replica_values.specs.{copies_of}
-use borrow.Author.Rules.{rules}
 use Rattle.replica_values.proofs.copies.Goals as goal
 
 pub returns-then-is_joining : goal.returns-then-is_joining

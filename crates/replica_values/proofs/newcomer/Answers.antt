@@ -1,5 +1,4 @@
 use Rattle.replica_values.specs.{newcomer_of}
-use borrow.Author.Rules.{rules}
 use Rattle.replica_values.proofs.newcomer.Goals as goal
 
 pub returns-then-is_joining : goal.returns-then-is_joining

@@ -1,8 +1,7 @@
 use mathlib.Core.Path.{refl}
-use borrow.Author.Tests.{le-ltb, lt-ltb, not-false, not-true}
+use borrow.Author.Tests.{le-ltb, lt-ltb}
 use Rattle.chain.specs.{is_member, table_of}
 use Rattle.replica_values.specs.{has_positions, positions_told, positions_in}
-use borrow.Author.Rules.{rules}
 use Rattle.replica_values.proofs.positions.Goals as goal
 
 pub returns-then-not-is_quorum : goal.returns-then-not-is_quorum

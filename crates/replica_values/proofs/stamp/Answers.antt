@@ -1,6 +1,5 @@
 use borrow.Author.Tests.{eq-eqb, ne_eqb}
 use Rattle.replica_values.specs.{stamp_held}
-use borrow.Author.Rules.{rules}
 use Rattle.replica_values.proofs.stamp.Goals as goal
 
 pub returns-then-t-eq0 : goal.returns-then-t-eq0

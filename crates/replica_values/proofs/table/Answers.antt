@@ -1,7 +1,6 @@
-use borrow.Author.Tests.{le-leb, le-ltb, lt-leb, lt-ltb, not-false, not-true}
+use borrow.Author.Tests.{le-leb, le-ltb, lt-leb, lt-ltb}
 use Rattle.chain.specs.{is_member, table_of}
 use Rattle.replica_values.specs.{table_for}
-use borrow.Author.Rules.{rules}
 use Rattle.replica_values.proofs.table.Goals as goal
 
 pub returns-then-object-ge-OBJECTS : goal.returns-then-object-ge-OBJECTS

@@ -1,6 +1,5 @@
 use mathlib.Core.Path.{ap}
 use lib.ListN.{replicate}
-use borrow.Author.Rules.{rules}
 use Rattle.waiting.specs.declared.Packet.{Packet}
 use Rattle.runs.proofs.blank_places.Goals as goal
 

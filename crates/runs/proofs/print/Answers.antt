@@ -1,6 +1,5 @@
 use Rattle.operations.specs.{none_open}
 use Rattle.chain.specs.{empty_cells}
-use borrow.Author.Rules.{rules}
 use Rattle.runs.proofs.Output.{print_holds}
 use Rattle.runs.proofs.print.Goals as goal
 

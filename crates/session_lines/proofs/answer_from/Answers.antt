@@ -1,6 +1,5 @@
 use borrow.Author.Tests.{eq-eqb, ne_eqb, lt-ltb, le-ltb}
 use Rattle.session_lines.specs.{answer_from}
-use borrow.Author.Rules.{rules}
 use Rattle.session_lines.proofs.answer_from.Goals as goal
 
 pub returns-then-operation-eq0 : goal.returns-then-operation-eq0

@@ -1,6 +1,5 @@
 use mathlib.Core.Path.{refl}
 use Rattle.session_lines.specs.{context_from}
-use borrow.Author.Rules.{rules}
 use Rattle.session_lines.proofs.context_from.Goals as goal
 
 pub returns : goal.returns

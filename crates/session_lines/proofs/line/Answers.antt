@@ -1,6 +1,5 @@
 use borrow.Author.Tests.{le-leb, lt-leb}
 use Rattle.session_lines.specs.{put_bytes}
-use borrow.Author.Rules.{rules}
 use Rattle.session_lines.proofs.line.Goals as goal
 
 pub returns-then-n-room : goal.returns-then-n-room

@@ -1,6 +1,5 @@
 use borrow.Author.Tests.{eq-eqb, ne_eqb}
 use Rattle.session_lines.specs.{line_for}
-use borrow.Author.Rules.{rules}
 use Rattle.session_lines.proofs.put_line.Goals as goal
 
 pub returns-then-refusal-ne0 : goal.returns-then-refusal-ne0

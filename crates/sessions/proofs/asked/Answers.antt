@@ -1,5 +1,4 @@
 use Rattle.sessions.specs.{asked_by}
-use borrow.Author.Rules.{rules}
 use Rattle.sessions.proofs.asked.Goals as goal
 
 pub returns : goal.returns

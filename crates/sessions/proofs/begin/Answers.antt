@@ -1,5 +1,4 @@
 use Rattle.sessions.specs.{session_started}
-use borrow.Author.Rules.{rules}
 use Rattle.sessions.proofs.begin.Goals as goal
 
 pub returns-then-is_refused : goal.returns-then-is_refused

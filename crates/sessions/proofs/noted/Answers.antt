@@ -1,5 +1,4 @@
 use Rattle.sessions.specs.{marks_after, session_after}
-use borrow.Author.Rules.{rules}
 use Rattle.sessions.proofs.noted.Goals as goal
 
 pub returns-in-Done : goal.returns-in-Done

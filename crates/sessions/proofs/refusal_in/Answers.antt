@@ -1,4 +1,3 @@
-use borrow.Author.Rules.{rules}
 use Rattle.sessions.proofs.refusal_in.Goals as goal
 
 pub returns-in-FinishedContext : goal.returns-in-FinishedContext

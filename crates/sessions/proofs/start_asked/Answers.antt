@@ -1,7 +1,6 @@
 use mathlib.Core.Path.{sym, ap, ◌∙◌}
 use Prim.Native.Nat.{ℕ, ◌+◌}
 use native.Mathlib.Omega.{arith}
-use borrow.Author.Rules.{rules}
 use Rattle.sessions.proofs.Starting.{from_1, no_start, one_start}
 use Rattle.sessions.proofs.start_asked.Goals as goal
 

@@ -1,5 +1,4 @@
 use borrow.Author.Tests.{eq-eqb, ne_eqb}
-use borrow.Author.Rules.{rules}
 use Rattle.sessions.proofs.whole_step.Goals as goal
 
 pub returns-then-n-size : goal.returns-then-n-size

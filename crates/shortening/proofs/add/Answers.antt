@@ -3,7 +3,6 @@ use mathlib.Core.List.{append-nil}
 use native.Mathlib.Omega.{arith}
 use borrow.Author.Tests.{eq-eqb, ne_eqb}
 use Rattle.shortening.proofs.Keeping.{copied_there, copied_length}
-use borrow.Author.Rules.{rules}
 use Rattle.shortening.proofs.add.Goals as goal
 
 pub returns-then-flag-eq0 : goal.returns-then-flag-eq0

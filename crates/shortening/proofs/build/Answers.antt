@@ -4,7 +4,6 @@ use Prim.Native.Nat.{ℕ, ◌+◌, ◌-◌, ◌≤◌}
 use native.Mathlib.Omega.{arith}
 use lib.ListN.{length, get_or, take, drop, length-append}
 use Rattle.shortening.specs.Shortening.{size_at, place_of, kept_to}
-use Rattle.shortening.specs.Promises.{Within}
 use Rattle.shortening.proofs.Records.{place_next_lem, size_least}
 use Rattle.shortening.proofs.Keeping.{piece, piece_short, record_bytes, kept_none, kept_next, part_is, part_short, record_within}
 use borrow.Author.Rules.{rules}

@@ -1,14 +1,9 @@
 -- The loop's invariant: the buffer begins with the records of those before i that are kept.
-use mathlib.Core.Path.{◌≡◌, refl, sym, ap, ◌∙◌}
-use mathlib.Core.List.{◌++◌}
-use Prim.Native.Nat.{ℕ, ◌+◌, ◌-◌, ◌≤◌}
-use native.Mathlib.Omega.{arith}
-use lib.ListN.{length, get_or, take, drop, length-append}
-use Rattle.shortening.specs.Shortening.{size_at, place_of, kept_to}
+use mathlib.Core.Path.{◌≡◌}
+use Prim.Native.Nat.{◌-◌, ◌≤◌}
+use lib.ListN.{length, take}
+use Rattle.shortening.specs.Shortening.{place_of, kept_to}
 use Rattle.shortening.specs.Promises.{Within}
-use Rattle.shortening.proofs.Records.{place_next_lem, size_least}
-use Rattle.shortening.proofs.Keeping.{piece, piece_short, record_bytes, kept_none, kept_next, part_is, part_short, record_within}
-use borrow.Author.Rules.{rules}
 use Rattle.shortening.proofs.build.Given as goal
 
 abbrev pub invariant-loop-i : goal.invariant-loop-i

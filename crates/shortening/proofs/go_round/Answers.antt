@@ -2,10 +2,8 @@ use mathlib.Core.Path.{◌≡◌, refl, sym, ap, ◌∙◌}
 use Prim.Native.Nat.{◌-◌}
 use native.Mathlib.Omega.{arith}
 use lib.ListN.{length}
-use Rattle.shortening.specs.Shortening.{rounds, most_records}
-use Rattle.shortening.specs.Promises.{Trying}
+use Rattle.shortening.specs.Shortening.{rounds}
 use Rattle.shortening.proofs.Passes.{passed_length, trying_kept, rounds_stop, rounds_more, rounds_none}
-use borrow.Author.Rules.{rules}
 use Rattle.shortening.proofs.go_round.Goals as goal
 
 pub loop-left-init : goal.loop-left-init

@@ -1,12 +1,8 @@
 -- The loop's invariant: what the passes that are left leave is what all leave.
-use mathlib.Core.Path.{◌≡◌, refl, sym, ap, ◌∙◌}
-use Prim.Native.Nat.{◌-◌}
-use native.Mathlib.Omega.{arith}
+use mathlib.Core.Path.{◌≡◌}
 use lib.ListN.{length}
 use Rattle.shortening.specs.Shortening.{rounds, most_records}
 use Rattle.shortening.specs.Promises.{Trying}
-use Rattle.shortening.proofs.Passes.{passed_length, trying_kept, rounds_stop, rounds_more, rounds_none}
-use borrow.Author.Rules.{rules}
 use Rattle.shortening.proofs.go_round.Given as goal
 
 abbrev pub invariant-loop-left : goal.invariant-loop-left

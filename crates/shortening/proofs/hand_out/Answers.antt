@@ -7,7 +7,6 @@ use borrow.Author.Tests.{lt-leb, le-leb}
 use mir.Syntax.{w64}
 use mir.ValLaws.{to_z_pos}
 use Rattle.shortening.proofs.Keeping.{handed_over}
-use borrow.Author.Rules.{rules}
 use Rattle.shortening.proofs.hand_out.Goals as goal
 
 pub returns-then-out-size : goal.returns-then-out-size

@@ -1,4 +1,3 @@
-use borrow.Author.Rules.{rules}
 use Rattle.shortening.proofs.has_record.Goals as goal
 
 pub returns-in-Record : goal.returns-in-Record

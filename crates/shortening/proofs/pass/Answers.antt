@@ -3,7 +3,6 @@ use Prim.Native.Nat.{ℕ, ◌+◌, ◌-◌, ◌≤◌}
 use native.Mathlib.Omega.{arith}
 use lib.ListN.{length}
 use Rattle.shortening.specs.Shortening.{drops, tried, passed, dropped}
-use Rattle.shortening.specs.Promises.{Trying}
 use Rattle.shortening.proofs.Passes.{tried_length, trying_kept, passed_next, dropped_next, passed_none, dropped_none, one_drop}
 use borrow.Author.Rules.{rules}
 use Rattle.shortening.proofs.pass.Goals as goal

@@ -1,12 +1,9 @@
 -- The loop's invariant: what the rest of the pass leaves is what the whole pass leaves.
-use mathlib.Core.Path.{◌≡◌, refl, sym, ap, ◌∙◌}
-use Prim.Native.Nat.{ℕ, ◌+◌, ◌-◌, ◌≤◌}
-use native.Mathlib.Omega.{arith}
+use mathlib.Core.Path.{◌≡◌}
+use Prim.Native.Nat.{◌+◌, ◌-◌, ◌≤◌}
 use lib.ListN.{length}
-use Rattle.shortening.specs.Shortening.{drops, tried, passed, dropped}
+use Rattle.shortening.specs.Shortening.{passed, dropped}
 use Rattle.shortening.specs.Promises.{Trying}
-use Rattle.shortening.proofs.Passes.{tried_length, trying_kept, passed_next, dropped_next, passed_none, dropped_none, one_drop}
-use borrow.Author.Rules.{rules}
 use Rattle.shortening.proofs.pass.Given as goal
 
 abbrev pub invariant-loop-i : goal.invariant-loop-i

@@ -1,5 +1,4 @@
 use mathlib.Core.Path.{sym, ◌∙◌}
-use borrow.Author.Tests.{not-true, not-false}
 use Rattle.shortening.specs.Shortening.{digits_read}
 use Rattle.shortening.proofs.Records.{digit_bounds}
 use borrow.Author.Rules.{rules}

@@ -3,7 +3,6 @@ use native.Mathlib.Omega.{arith}
 use lib.Seq.{length-take-le, get_or-take}
 use borrow.Author.Tests.{lt-ltb, le-ltb}
 use Rattle.shortening.specs.Shortening.{refusal_read}
-use borrow.Author.Rules.{rules}
 use Rattle.shortening.proofs.read_refusal.Goals as goal
 
 pub returns-then-n-lt3 : goal.returns-then-n-lt3

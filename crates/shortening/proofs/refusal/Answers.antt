@@ -6,7 +6,6 @@ use Rattle.runs.specs.Runs.{printed}
 use Rattle.shortening.specs.Shortening.{refusal_read}
 use Rattle.runs.proofs.Whole.{whole_output, whole_length}
 use Rattle.shortening.proofs.Printing.{output_room_lem}
-use borrow.Author.Rules.{rules}
 use Rattle.shortening.proofs.refusal.Goals as goal
 
 pub read_refusal-requires : goal.read_refusal-requires

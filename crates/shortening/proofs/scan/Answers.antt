@@ -3,7 +3,6 @@ use native.Mathlib.Omega.{arith}
 use borrow.Author.Tests.{lt-ltb, le-ltb}
 use Rattle.shortening.specs.Shortening.{is_record, met}
 use Rattle.shortening.proofs.Records.{record_lies, scanned_all}
-use borrow.Author.Rules.{rules}
 use Rattle.shortening.proofs.scan.Goals as goal
 
 pub returns-then-input-gt-INPUT : goal.returns-then-input-gt-INPUT

@@ -1,10 +1,8 @@
 use mathlib.Core.Path.{◌≡◌, sym, ap, ◌∙◌}
-use Prim.Native.Nat.{ℕ, ◌+◌, ◌-◌, ◌*◌, ◌≤◌}
+use Prim.Native.Nat.{ℕ, ◌+◌, ◌-◌, ◌≤◌}
 use native.Mathlib.Omega.{arith}
 use lib.ListN.{length}
-use borrow.Author.Tests.{not-true, not-false}
 use Rattle.shortening.specs.Shortening.{size_at, place_of, records_from, met_from, records_in}
-use Rattle.shortening.specs.Promises.{Within}
 use Rattle.shortening.proofs.Records.{record_lies, met_record, counted_record, met_fault, met_end, counted_end, place_next_lem, place_one, within_one, within_more, size_least}
 use borrow.Author.Rules.{rules}
 use Rattle.shortening.proofs.scan_from.Goals as goal

@@ -9,7 +9,6 @@ use Rattle.shortening.specs.declared.Met.{Met}
 use Rattle.shortening.specs.Shortening.{records_in, shorten_refusal, signed, shorten_answer, handed, shorten_buffer}
 use Rattle.shortening.specs.Promises.{Scanned}
 use Rattle.shortening.proofs.Answers.{kept_fits}
-use borrow.Author.Rules.{rules}
 use Rattle.shortening.proofs.shorten.Goals as goal
 
 pub returns-then-count-gt-MOST : goal.returns-then-count-gt-MOST

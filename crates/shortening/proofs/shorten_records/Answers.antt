@@ -9,7 +9,6 @@ use mir.Val.{SFits}
 use mir.ValLaws.{to_z-of_z}
 use Rattle.shortening.specs.Shortening.{kept_refusal, signed, handed}
 use Rattle.shortening.proofs.Answers.{shortened_is, kept_answer, kept_buffer, answer_fits}
-use borrow.Author.Rules.{rules}
 use Rattle.shortening.proofs.shorten_records.Goals as goal
 
 pub returns-then-number-eq0 : goal.returns-then-number-eq0

@@ -2,7 +2,6 @@ use mathlib.Core.Path.{sym, ap, ◌∙◌}
 use native.Mathlib.Omega.{arith}
 use lib.ListN.{length}
 use Rattle.shortening.specs.Shortening.{refusal_of}
-use borrow.Author.Rules.{rules}
 use Rattle.shortening.proofs.trial.Goals as goal
 
 pub slice_bounds-refusal-end-2 : goal.slice_bounds-refusal-end-2

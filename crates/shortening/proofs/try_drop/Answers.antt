@@ -5,7 +5,6 @@ use lib.Seq.{set-set, set-get_or}
 use borrow.Author.Tests.{eq-eqb, ne_eqb}
 use Rattle.shortening.specs.Shortening.{is_same, drops, tried}
 use Rattle.shortening.proofs.Passes.{trying_kept}
-use borrow.Author.Rules.{rules}
 use Rattle.shortening.proofs.try_drop.Goals as goal
 
 pub bounds-flags-i : goal.bounds-flags-i

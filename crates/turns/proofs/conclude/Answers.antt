@@ -2,7 +2,6 @@ use Rattle.lines.proofs.Text.{put_nothing}
 use Rattle.turns.specs.Promises.{place_after}
 use mathlib.Core.Path.{sym}
 use native.Mathlib.Omega.{arith}
-use borrow.Author.Rules.{rules}
 use Rattle.turns.proofs.conclude.Goals as goal
 
 pub returns-in-Record : goal.returns-in-Record

@@ -1,6 +1,5 @@
 use Rattle.turns.specs.Turns.{first_printed}
 use borrow.Author.Tests.{lt-ltb, le-ltb}
-use borrow.Author.Rules.{rules}
 use Rattle.turns.proofs.first.Goals as goal
 
 pub returns-then-turns-gt-INPUT : goal.returns-then-turns-gt-INPUT

@@ -1,5 +1,4 @@
 use mathlib.Core.Path.{ap, ◌∙◌}
-use borrow.Author.Rules.{rules}
 use Rattle.turns.specs.Promises.{place_after}
 use Rattle.turns.proofs.go_on.Goals as goal
 

@@ -1,6 +1,5 @@
 use borrow.Author.Tests.{eq-eqb, ne_eqb}
 use Rattle.turns.specs.Turns.{next_number}
-use borrow.Author.Rules.{rules}
 use Rattle.turns.proofs.next_number.Goals as goal
 
 pub returns-then-k-eq-LAST_RECORD_NUMBER : goal.returns-then-k-eq-LAST_RECORD_NUMBER

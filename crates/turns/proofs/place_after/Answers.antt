@@ -1,6 +1,5 @@
 use Rattle.turns.specs.Promises.{place_after}
 use native.Mathlib.Omega.{arith}
-use borrow.Author.Rules.{rules}
 use Rattle.turns.proofs.place_after.Goals as goal
 
 pub returns-then-used-n : goal.returns-then-used-n

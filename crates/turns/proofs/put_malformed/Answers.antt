@@ -1,6 +1,5 @@
 use Rattle.turns.specs.Promises.{place_after}
 use mathlib.Core.Path.{ap, ◌∙◌}
-use borrow.Author.Rules.{rules}
 use Rattle.turns.proofs.put_malformed.Goals as goal
 
 pub returns : goal.returns

@@ -1,5 +1,4 @@
 use Rattle.turns.specs.Turns.{read_next}
-use borrow.Author.Rules.{rules}
 use Rattle.turns.proofs.read_next.Goals as goal
 
 pub returns-then-over : goal.returns-then-over

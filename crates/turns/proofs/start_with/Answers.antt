@@ -2,7 +2,6 @@ use Rattle.turns.proofs.Standings.{start_stands}
 use Rattle.turns.specs.Turns.{started_with}
 use Rattle.turns.specs.Promises.{place_after, stands_as}
 use mathlib.Core.Path.{refl, ap, ◌∙◌}
-use borrow.Author.Rules.{rules}
 use Rattle.turns.proofs.start_with.Goals as goal
 
 pub returns : goal.returns

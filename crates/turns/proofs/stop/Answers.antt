@@ -2,7 +2,6 @@ use Rattle.waiting.specs.Waiting.{none_wait}
 use Rattle.turns.specs.Turns.{stopped}
 use Rattle.turns.specs.Promises.{place_after, stands_as}
 use mathlib.Core.Path.{refl, ap, ◌∙◌}
-use borrow.Author.Rules.{rules}
 use Rattle.turns.proofs.stop.Goals as goal
 
 pub returns : goal.returns

@@ -1,5 +1,4 @@
 use mathlib.Core.Path.{refl}
-use borrow.Author.Rules.{rules}
 use Rattle.turns.proofs.turn_of.Goals as goal
 
 pub returns-in-Record : goal.returns-in-Record

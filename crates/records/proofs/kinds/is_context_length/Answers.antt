@@ -1,6 +1,5 @@
 use borrow.Author.Tests.{eq-eqb, ne_eqb}
 use Rattle.records.specs.Records.{is_context_length}
-use borrow.Author.Rules.{rules}
 use Rattle.records.proofs.kinds.is_context_length.Goals as goal
 
 pub returns-then-n-eq0 : goal.returns-then-n-eq0

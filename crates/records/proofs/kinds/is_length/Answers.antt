@@ -1,6 +1,5 @@
 use borrow.Author.Tests.{eq-eqb, ne_eqb}
 use Rattle.records.specs.Records.{is_length}
-use borrow.Author.Rules.{rules}
 use Rattle.records.proofs.kinds.is_length.Goals as goal
 
 pub returns-then-kind-eq-CONTEXT_KIND : goal.returns-then-kind-eq-CONTEXT_KIND

@@ -1,6 +1,5 @@
 use borrow.Author.Tests.{eq-eqb, ne_eqb}
 use Rattle.records.specs.Records.{is_short_give_up}
-use borrow.Author.Rules.{rules}
 use Rattle.records.proofs.kinds.is_short_give_up.Goals as goal
 
 pub returns-then-kind-eq-GIVE_UP_KIND : goal.returns-then-kind-eq-GIVE_UP_KIND

@@ -2,7 +2,6 @@ use native.Mathlib.Omega.{arith}
 use Prim.Native.Nat.{ℕ}
 use borrow.Author.Tests.{le-leb, lt-leb, ne_eqb}
 use Rattle.records.specs.Records.{tag_of}
-use borrow.Author.Rules.{rules}
 use Rattle.records.proofs.kinds.tag_of.Goals as goal
 
 pub returns-in-15 : goal.returns-in-15

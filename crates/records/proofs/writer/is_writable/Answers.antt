@@ -1,6 +1,5 @@
 use mathlib.Core.Path.{refl}
 use Rattle.records.proofs.Table.{in_table}
-use borrow.Author.Rules.{rules}
 use Rattle.records.proofs.writer.is_writable.Goals as goal
 
 pub returns-in-BeginContext : goal.returns-in-BeginContext

@@ -2,7 +2,6 @@ use mathlib.Core.Path.{ap, ◌∙◌}
 use native.Mathlib.Omega.{arith}
 use Rattle.contexts.specs.{size_of}
 use Rattle.records.proofs.Contexts.{objects_size}
-use borrow.Author.Rules.{rules}
 use Rattle.records.proofs.writer.objects_length.Goals as goal
 
 pub returns : goal.returns

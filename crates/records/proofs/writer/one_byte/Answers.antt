@@ -1,5 +1,4 @@
 use Rattle.records.specs.Records.{header_of, two_bytes}
-use borrow.Author.Rules.{rules}
 use Rattle.records.proofs.writer.one_byte.Goals as goal
 
 pub returns : goal.returns

@@ -2,7 +2,6 @@ use mathlib.Core.Path.{◌≡◌}
 use lib.ListN.{length}
 use Rattle.records.specs.Records.{content_of, content_length, kind_of}
 use Rattle.records.proofs.Table.{record_size_lem, in_table}
-use borrow.Author.Rules.{rules}
 use Rattle.records.proofs.writer.record_length.Goals as goal
 
 pub returns-in-BeginContext : goal.returns-in-BeginContext

@@ -1,6 +1,5 @@
 use Rattle.records.specs.Records.{content_length, header_of, record_of, two_bytes, four_bytes}
 use Rattle.records.proofs.Contexts.{objects_record}
-use borrow.Author.Rules.{rules}
 use Rattle.records.proofs.writer.record_of.Goals as goal
 
 pub returns-in-Start : goal.returns-in-Start

@@ -1,5 +1,4 @@
 use Rattle.records.specs.Records.{content_length, header_of, record_of, two_bytes}
-use borrow.Author.Rules.{rules}
 use Rattle.records.proofs.writer.setup_record.Goals as goal
 
 pub returns-in-Missing : goal.returns-in-Missing

@@ -1,6 +1,5 @@
 use native.Mathlib.Numerals.{add-one}
 use Rattle.records.specs.Records.{two_bytes}
-use borrow.Author.Rules.{rules}
 use Rattle.records.proofs.writer.with_two.Goals as goal
 
 pub returns : goal.returns

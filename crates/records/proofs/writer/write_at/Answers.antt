@@ -4,7 +4,6 @@ use lib.ListN.{take}
 use borrow.Author.Tests.{leb-true}
 use Rattle.records.specs.Records.{record_of, has_room, written_at, buffer_after}
 use Rattle.records.proofs.Table.{record_short}
-use borrow.Author.Rules.{rules}
 use Rattle.records.proofs.writer.write_at.Goals as goal
 
 pub put-requires : goal.put-requires
