@@ -18,7 +18,6 @@ pub use mathlib.Core.List.Memᴰ.{append_cases as cases_append}
 pub use mathlib.Core.List.Memᴰ.{append_left as in_left}
 pub use mathlib.Core.List.Memᴰ.{append_right as in_right}
 pub use mathlib.Core.List.Memᴰ.{cases_cons}
-use Rattle.lists.proofs.Tests.{both}
 
 module _ {A : Type 0} where
   infix 4 ◌∉◌

@@ -3,15 +3,15 @@ use mathlib.Core.Path.{◌≡◌, refl, sym, ap, ◌∙◌, subst}
 use mathlib.Core.Bool.{true, false}
 use mathlib.Core.List.{List, [], ◌∷◌, ◌++◌, append-nil}
 use mathlib.Core.Logic.{inl, inr}
-use Prim.Native.Nat.{ℕ, suc, ◌+◌, ◌-◌, ◌≤◌, ◌<◌}
+use Prim.Native.Nat.{ℕ, suc, ◌-◌, ◌≤◌, ◌<◌}
 use native.Mathlib.Omega.{arith}
 use lib.Dec.{eqb, leb}
 use lib.ListN.{length, take, length-append}
 use lib.Seq.{slice, take-append-le, length-take-le, take-take}
 use borrow.Author.Tests.{eqb-false, leb-false}
 use Rattle.lists.proofs.Tests.{by_test, both}
-use Rattle.history.specs.History.{◌∈◌, writes, History}
-use Rattle.history.proofs.Lists.{cases_cons, cases_append, only-member, in_get_d}
+use Rattle.history.specs.History.{◌∈◌, History}
+use Rattle.history.proofs.Lists.{cases_append, in_get_d}
 use Rattle.history.proofs.Entries.{Entry}
 use Rattle.switch.specs.Numbers.{number_in, committed_in}
 use Rattle.store.specs.declared.Write.{Write}
@@ -20,7 +20,7 @@ use Rattle.chain.specs.{is_live, head_of, tail_of, is_member, is_tail, table_of,
 use Rattle.joins.specs.{handing_on, is_joining, last_number, is_full, beginning, copying, without}
 use Rattle.replicas.specs.Replicas.{accepts, taking, applying, pending_at, pending, oldest}
 use Rattle.chain.proofs.Numbers.{table_live, tail_table, read_replica_is}
-use Rattle.waiting.specs.Waiting.{held, edited}
+use Rattle.waiting.specs.Waiting.{held}
 use Rattle.waiting.proofs.Laws as waiting
 use Rattle.protocol.specs.Answers.{no_freshness}
 use Rattle.protocol.specs.declared.Message.{Message}
@@ -29,31 +29,29 @@ use Rattle.protocol.specs.declared.Refusal.TheVariants.{WaitingFull, NotLive, No
 use Rattle.protocol.specs.declared.Step.TheVariants.{Advance, Tell, Remove, Join, Copy}
 use Rattle.protocol.specs.Decisions.{Stored, stored, changing_store, deciding, dropping, overfull, no_edit}
 use Rattle.protocol.specs.Delivery.{answering}
-use Rattle.protocol.specs.Steps.{Machine, machine, given_by, sending, chain_advancing, telling, removing, joining, copying_on}
+use Rattle.protocol.specs.Steps.{Machine, given_by, sending, chain_advancing, telling, removing, joining, copying_on}
 use Rattle.write_log.proofs.Holds.{Small, small_append, no_write}
 use Rattle.write_log.proofs.Shows.{Shows, head_live, shows_permitting}
 use Rattle.write_log.proofs.Moves.{shows_taken_above, shows_taken, shows_taken_lone, taken_lone_all, visible_taken, visible_taken_lone, oldest_below, oldest_is, shows_advanced, shows_advanced_tail, oldest_tail_below, visible_advanced, visible_advanced_tail, shows_removed, visible_removed}
-use Rattle.write_log.proofs.Places.{SamePlaces, places_same, places_trans, at_head_same, AtHead, places_applying, places_permitting}
+use Rattle.write_log.proofs.Places.{SamePlaces, places_same, places_trans, at_head_same, places_applying, places_permitting}
 use Rattle.write_log.proofs.Tables.{table_not_tail, table_pending}
 use Rattle.write_log.proofs.Beside.{places_handing, shows_handing, entries_handing}
 use Rattle.write_log.proofs.Joined.{last_copying, joined_permitting, joined_applying, joined_handing, joined_beginning, shows_copying, joined_copying, at_head_copying}
 use Rattle.write_log.proofs.Taken.{places_taking, joined_taking, joined_taking_lone}
 use Rattle.write_log.proofs.StoreKind.{kind_applying, kind_taking, kind_handing, kind_permitting, kind_beginning, kind_copying, kind_without}
-use Rattle.linearizability.proofs.Visible.{shows}
 use Rattle.linearizability.proofs.Logged.{Logged, logged_accept, logged_show, logged_cut}
 use Rattle.linearizability.proofs.Packets.{unstamped_append}
-use Rattle.linearizability.proofs.Waits.{messages, Stands, taken_out, taken_out_add_two, edited_nothing, added_two}
-use Rattle.linearizability.proofs.Invariant.{Placed, one_chain, ChainCore, Good, Then, order_stays, good_refused, Keeps, placed_by, chain_keeps}
+use Rattle.linearizability.proofs.Waits.{messages, Stands, taken_out, taken_out_add_two, edited_nothing}
+use Rattle.linearizability.proofs.Invariant.{one_chain, ChainCore, Good, Then, order_stays, good_refused, placed_by, chain_keeps}
 use Rattle.write_log.proofs.Kept.{shows_kept}
 use Rattle.write_log.proofs.Joins.{last_beginning, not_full, replicas_beginning, at_head_beginning}
 use Rattle.write_log.proofs.Without.{last_without, shows_ended, ended_live, ended_count, without_is, joined_without, at_head_without}
 use Rattle.linearizability.proofs.Deliveries.{good_of, made_visible_lem, good_store, good_shown, answer_placed, chain_outcome, log_small}
-use Rattle.chain.specs.{read_replica_of}
 use Rattle.joins.specs.{is_join_set}
 use Rattle.replicas.specs.Links.{entries}
 use Rattle.replicas.specs.Visible.{visible_count, made_visible}
 use Rattle.write_log.proofs.Places.{joining_set, last_number_same}
-use Rattle.linearizability.proofs.Invariant.{ChainHolds, ReplicasHold, in_chain}
+use Rattle.linearizability.proofs.Invariant.{ChainHolds, in_chain}
 use Rattle.linearizability.proofs.Deliveries.{After, rest, lost, others, fewer, issued_small}
 
 -- how many writes of a chain's log are visible

@@ -7,7 +7,6 @@ use Prim.Native.Nat.{ℕ, zero, suc, ◌+◌, ◌-◌, ◌≤◌, ◌<◌}
 use native.Mathlib.Omega.{arith}
 use lib.ListN.{length, take}
 use lib.Seq.{slice}
-use Rattle.limits.specs as limits
 use Rattle.history.specs.History.{◌∈◌, writes, History, finished}
 use Rattle.history.proofs.Lists.{there, cases_cons, cases_append, only-member, in_take}
 use Rattle.history.proofs.Entries.{Entry, Unfinished}
@@ -36,12 +35,12 @@ use Rattle.protocol.specs.Decisions.{Outcome, switched, opened, keeping, changin
 use Rattle.protocol.specs.Contexts.{dropping_row, answering_context}
 use Rattle.protocol.specs.Delivery.{reply}
 use Rattle.protocol.specs.Steps.{Machine, machine, given_by, sending}
-use Rattle.write_log.proofs.Log.{values, top}
+use Rattle.write_log.proofs.Log.{top}
 use Rattle.write_log.proofs.Holds.{Small}
 use Rattle.linearizability.proofs.Visible.{shows}
 use Rattle.linearizability.proofs.Logged.{Logged, logged_show, slice_is, slice_rising, slice_issued, slice_chain}
 use Rattle.protocol.proofs.Effects.{Names}
-use Rattle.linearizability.proofs.Packets.{AnsweredContext, row_numbers, Direct, Asks, unstamped_one, unstamped, unstamped_append, unstamped_lost, asks_none}
+use Rattle.linearizability.proofs.Packets.{AnsweredContext, row_numbers, Asks, unstamped_one, unstamped, unstamped_append, unstamped_lost, asks_none}
 use Rattle.linearizability.proofs.Core.{core_add, core_rows, core_lose, core_leave, core_turn}
 use Rattle.linearizability.proofs.Order.{Sent, core_outcome, core_finishes, context_finishes}
 use Rattle.linearizability.proofs.Waits.{messages, front, back, Stands, stands_in_lem, taken_out, taken_out_add, edited_nothing, added_two}

@@ -6,7 +6,7 @@ use Prim.Native.Nat.{ℕ, ◌≤◌, ◌<◌}
 use native.Mathlib.Omega.{arith}
 use Rattle.history.specs.History.{◌∈◌}
 use Rattle.store.specs.declared.Write.{Write}
-use Rattle.store.specs.{live_count, number_at, is_quorum}
+use Rattle.store.specs.{live_count, number_at}
 use Rattle.chain.specs.{table_of}
 use Rattle.joins.specs.{is_joining, newcomer_number, last_number}
 use Rattle.waiting.specs.declared.Packet.{Packet}
@@ -26,7 +26,7 @@ use Rattle.write_log.proofs.Taken.{places_taking}
 use Rattle.write_log.proofs.Joined.{last_copying}
 use Rattle.write_log.proofs.Without.{last_without}
 use Rattle.linearizability.proofs.Waits.{messages}
-use Rattle.linearizability.proofs.Invariant.{addressee, ReplicasHold, chain_held, quorum_held}
+use Rattle.linearizability.proofs.Invariant.{addressee, ReplicasHold, chain_held}
 use Rattle.linearizability.proofs.Replicas.{in_places}
 use Rattle.linearizability.proofs.Limits.{machine_of, good_run}
 

@@ -14,8 +14,8 @@ use Rattle.protocol.specs.Messages.{packet_of, context_message, message_of, is_u
 use Rattle.protocol.specs.Decisions.{refusing, dropping, passing, overfull}
 use Rattle.protocol.specs.Contexts as Rules
 use Rattle.protocol.specs.Reads as Directly
-use Rattle.protocol.specs.Delivery.{stamping, unstamped_write, switch_read, chain_write, leader_write, stamped_write, acknowledgement, direct_read, normal_read, completion, reply, delivered_message}
-use Rattle.protocol.specs.Steps.{is_sound, asking, begin_operation, begin_context, delivered, chain_advancing, follower_advancing, advancing, executing_on, removing, giving_up, position_of, decided, is_malformed, decided_in, answer_to, after as next, Machine, stepped_by, started}
+use Rattle.protocol.specs.Delivery.{stamping, unstamped_write, switch_read, chain_write, stamped_write, direct_read, normal_read, completion, reply, delivered_message}
+use Rattle.protocol.specs.Steps.{is_sound, asking, begin_operation, begin_context, delivered, chain_advancing, advancing, removing, giving_up, position_of, decided, is_malformed, decided_in, answer_to, after as next, Machine, stepped_by, started}
 use Rattle.waiting.specs.declared.Packet.{Packet}
 use Rattle.waiting.specs.Waiting.{blank, held_in, none_wait, look_at, takes_out, left_by, fits, after_taking, adding, edited}
 use Rattle.lists.specs.{moves, index_of, list_of, all_of}

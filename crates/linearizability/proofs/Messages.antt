@@ -20,7 +20,7 @@ use Rattle.switch.specs.DirtySet.{looked_up, marked, stamp_for, completed}
 use Rattle.switch.proofs.Laws.{SizedSwitch, marked_committed, marked_counter, completed_committed, completed_counter}
 use Rattle.operations.specs.{is_open}
 use Rattle.store.specs.declared.Write.{Write}
-use Rattle.store.specs.{value_at, stamp_at, is_quorum}
+use Rattle.store.specs.{value_at, stamp_at}
 use Rattle.chain.specs.{is_member, is_tail, table_of, head_number, chosen_by, all_permit}
 use Rattle.replicas.specs.Replicas.{accepts}
 use Rattle.quorum.specs.{logs}

@@ -23,7 +23,7 @@ use Rattle.protocol.specs.declared.Setup.TheVariants.{Missing, Chain, Quorum}
 use Rattle.protocol.specs.Starts.{start_refused}
 use Rattle.protocol.proofs.Refusals.{start_accepted, quorum_accepted}
 use Rattle.protocol.specs.declared.Step.{Step}
-use Rattle.protocol.specs.Steps.{Machine, machine, answer_to, after, new_store, started}
+use Rattle.protocol.specs.Steps.{Machine, answer_to, after, new_store, started}
 use Rattle.write_log.proofs.Shows.{shows_start}
 use Rattle.write_log.proofs.Joined.{joined_start}
 use Rattle.write_log.proofs.StoreKind.{kind_start}

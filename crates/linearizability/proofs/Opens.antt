@@ -37,7 +37,7 @@ use Rattle.protocol.specs.declared.Refusal.TheVariants.{OpenFull}
 use Rattle.protocol.specs.declared.Step.{Step}
 use Rattle.protocol.specs.declared.Step.TheVariants.{BeginRead, BeginWrite, BeginContext}
 use Rattle.protocol.specs.Messages.{is_of_context}
-use Rattle.protocol.specs.Decisions.{Given, Outcome, Opened, opened, changing_opens, refusing, overfull}
+use Rattle.protocol.specs.Decisions.{Given, Outcome, Opened, changing_opens, refusing, overfull}
 use Rattle.protocol.specs.Contexts.{released}
 use Rattle.protocol.specs.Steps.{Machine, given_by, outcome_of, begin_operation, begin_context, decided, is_malformed, decided_in, answer_to, after, started}
 use Rattle.protocol.specs.Roles.{Role}

@@ -6,7 +6,6 @@ use mathlib.Core.List.{List, [], ◌∷◌, ◌++◌, map}
 use Prim.Native.Nat.{ℕ, ◌+◌, ◌≤◌}
 use native.Mathlib.Omega.{arith}
 use lib.ListN.{length, take}
-use Rattle.lists.proofs.Tests.{both}
 use Rattle.history.specs.History.{◌∈◌, reads, writes, Event, History, begun, Begun}
 use Rattle.history.proofs.Lists.{here, there, no_member, only-member, cases_cons, cases_append, in_left, in_right, in_insert, Pairwise, pairwise_snoc, pairwise_remove, pairwise_at}
 use Rattle.history.proofs.Entries.{Entry, InOrder}

@@ -1,12 +1,11 @@
 -- What keeps the invariant in a quorum store (document 02, Req 11): the leader logs a write and executes it, a follower takes an item of its link, an acknowledgement comes, a replica is told.
-use mathlib.Core.Path.{◌≡◌, refl, sym, ap, ◌∙◌, subst}
+use mathlib.Core.Path.{◌≡◌, refl, sym, ap, ◌∙◌}
 use mathlib.Core.Bool.{true, false}
 use mathlib.Core.List.{List, [], ◌∷◌, ◌++◌}
-use mathlib.Core.Logic.{inl, inr}
 use Prim.Native.Nat.{ℕ, suc, ◌+◌, ◌-◌, ◌≤◌, ◌<◌}
 use native.Mathlib.Omega.{arith}
 use lib.Dec.{eqb, ltb}
-use lib.ListN.{length, get_or, take}
+use lib.ListN.{length, get_or}
 use lib.Seq.{slice, take-append-le}
 use borrow.Author.Tests.{eqb-false}
 use Rattle.limits.specs as limits
@@ -33,7 +32,7 @@ use Rattle.protocol.specs.declared.Step.TheVariants.{Advance, Tell, Execute}
 use Rattle.protocol.specs.Messages.{packet_of}
 use Rattle.protocol.specs.Decisions.{Stored, stored, changing_store, deciding, add_one, no_edit, dropping, overfull}
 use Rattle.protocol.specs.Steps.{Machine, given_by, sending, follower_advancing, executing_on, telling}
-use Rattle.write_log.proofs.Holds.{Small, small_append, no_write}
+use Rattle.write_log.proofs.Holds.{Small, no_write}
 use Rattle.write_log.proofs.Moves.{slice_one}
 use Rattle.write_log.proofs.Places.{Places, last_number_same, member_as, table_as, at_head_same}
 use Rattle.write_log.proofs.Quorum.{entries_kept}
@@ -43,8 +42,8 @@ use Rattle.linearizability.proofs.Logged.{Logged, logged_accept}
 use Rattle.linearizability.proofs.Packets.{unstamped_append}
 use Rattle.linearizability.proofs.Core.{core_add}
 use Rattle.linearizability.proofs.Waits.{messages, Stands, taken_out, added_one}
-use Rattle.linearizability.proofs.Invariant.{Acknowledged, Placed, one_chain, ChainCore, in_quorum, Good, Then, order_stays, good_refused, Keeps, placed_by, posted_add}
-use Rattle.linearizability.proofs.Deliveries.{good_of, made_visible_lem, good_store, good_shown, log_small, issued_small, After, rest, lost, others, fewer}
+use Rattle.linearizability.proofs.Invariant.{Acknowledged, one_chain, ChainCore, in_quorum, Good, Then, order_stays, good_refused, Keeps, placed_by, posted_add}
+use Rattle.linearizability.proofs.Deliveries.{good_of, made_visible_lem, good_store, good_shown, log_small, After, rest, lost, others, fewer}
 
 -- how many writes of the log are visible: those that the leader has executed
 pub executed_is : {s : List ℕ} {log : List Write} {n : ℕ} → QuorumHolds s log n → visible_count s ≡ n

@@ -1,6 +1,6 @@
 -- Document 02, Req 11: what holds of a quorum store in every run. Its executed writes stand in the logs of a majority, its links hold at most 64 items, and they do what the request says.
-use mathlib.Core.Path.{◌≡◌, refl, sym, ap, ◌∙◌, subst}
-use mathlib.Core.Bool.{Bool, true, false}
+use mathlib.Core.Path.{◌≡◌, refl, sym, ap, ◌∙◌}
+use mathlib.Core.Bool.{true, false}
 use mathlib.Core.List.{List, [], ◌∷◌, ◌++◌}
 use mathlib.Core.Logic.{◌⊎◌, inl, inr}
 use Prim.Native.Nat.{ℕ, ◌+◌, ◌*◌, ◌≤◌, ◌<◌}
@@ -15,11 +15,11 @@ use Rattle.history.proofs.Entries.{Entry}
 use Rattle.stamp.specs.Stamps.{is_above}
 use Rattle.store.specs.declared.Write.{Write}
 use Rattle.store.specs.{live_count, members, applied_by, entry_at, is_quorum}
-use Rattle.chain.specs.{head_of, is_member, table_of, permitting}
+use Rattle.chain.specs.{head_of, is_member, table_of}
 use Rattle.replicas.specs.Replicas.{applying}
-use Rattle.replicas.proofs.Cells.{row_apart, members_applying, applied_applying_same, applied_applying_other}
-use Rattle.quorum.specs.{logged_by, acknowledged_by, linked_items, last_logged, unexecuted, logs, count_logged, logging, next_is_entry, next_entry, acknowledging, count_of, executes, executing}
-use Rattle.quorum.specs.Links.{Item, entry, executed, link_to}
+use Rattle.replicas.proofs.Cells.{row_apart, members_applying, applied_applying_other}
+use Rattle.quorum.specs.{logged_by, acknowledged_by, linked_items, last_logged, unexecuted, logs, count_logged, logging, next_is_entry, next_entry, count_of, executes, executing}
+use Rattle.quorum.specs.Links.{entry, executed, link_to}
 use Rattle.quorum.proofs.Counts.{count_most}
 use Rattle.quorum.proofs.Cells.{same_counted, logged_counted_other, logged_behind, applying_behind}
 use Rattle.waiting.specs.declared.Packet.{Packet}
@@ -33,7 +33,6 @@ use Rattle.protocol.specs.Roles.{Role}
 use Rattle.protocol.specs.Decisions.{Outcome, Stored, changing_store, refusing, overfull}
 use Rattle.protocol.specs.Steps.{Machine, new_store, started, given_by, outcome_of, follower_advancing, advancing, executing_on, decided, is_malformed, decided_in, answer_to, after}
 use Rattle.protocol.proofs.Effects.{StoreEffect, store_kept, takes, takes_as_tail, applies, applies_as_tail, permits, removes, joins, copies, leader_logs, leader_hears, follower_logs, follower_executes, leader_executes, effect}
-use Rattle.write_log.proofs.Log.{top}
 use Rattle.write_log.proofs.Quorum.{executed_logged, shows_entry_taken, shows_stamp_taken}
 use Rattle.write_log.proofs.Leader.{above_logged}
 use Rattle.write_log.proofs.StoreKind.{SameKind, kind_applying, kind_taking, kind_handing, kind_permitting, kind_beginning, kind_copying, kind_without, kind_counted, kind_acknowledging, kind_logging, kind_executing}

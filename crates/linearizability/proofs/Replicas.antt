@@ -1,18 +1,18 @@
 -- What holds of the replicas of every kind of store: whom a stamped write is for, what the replica that answers normal reads has, and what a direct read is answered with.
 use mathlib.Core.Path.{◌≡◌, refl, sym, ap, ◌∙◌, subst}
-use mathlib.Core.Bool.{true, false}
+use mathlib.Core.Bool.{true}
 use mathlib.Core.List.{List, [], ◌∷◌, ◌++◌, map}
 use Prim.Native.Nat.{ℕ, ◌-◌, ◌%◌, ◌≤◌, ◌<◌}
 use native.Mathlib.Nat.{mod-lt}
 use native.Mathlib.Omega.{arith}
-use lib.ListN.{length, take}
+use lib.ListN.{take}
 use borrow.Author.Tests.{eqb-true}
 use Rattle.history.specs.History.{◌∈◌, reads, History, begun}
 use Rattle.history.proofs.Lists.{here}
 use Rattle.history.proofs.Entries.{Entry}
 use Rattle.store.specs.declared.Write.{Write}
 use Rattle.store.specs.{live_count, applied_by, value_at, stamp_at}
-use Rattle.chain.specs.{member_at, is_live, head_of, place_of, is_read_replica, read_replica_number, table_of, head_number, chosen_by}
+use Rattle.chain.specs.{member_at, is_live, place_of, is_read_replica, read_replica_number, table_of, head_number, chosen_by}
 use Rattle.chain.proofs.Members.{head_is, in_live, live_in, place_below}
 use Rattle.chain.proofs.Numbers.{table_is, head_number_is, number_order, chosen_at, tail_number_at, tail_table, read_replica_tail, read_number_is, read_number_leader, read_place_first}
 use Rattle.joins.specs.{last_number}

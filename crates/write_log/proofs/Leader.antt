@@ -6,8 +6,8 @@ use Prim.Native.Nat.{ℕ, zero, suc, ◌+◌, ◌-◌, ◌*◌, ◌≤◌, ◌<�
 use native.Mathlib.Numerals.{add-one}
 use native.Mathlib.Decide.{ℕ_discrete}
 use native.Mathlib.Omega.{arith}
-use lib.Dec.{eqb, leb, ltb}
-use lib.ListN.{length, get_or, take, length-append, get_or-append}
+use lib.Dec.{eqb, ltb}
+use lib.ListN.{length, get_or, length-append, get_or-append}
 use lib.Seq.{take-append-le, take_all, get_or-append_seam}
 use borrow.Author.Tests.{eqb-true, eqb-false, ltb-true, lt-ltb}
 use Rattle.limits.specs as limits
@@ -17,15 +17,15 @@ use Rattle.lists.proofs.AllOf.{all_member}
 use Rattle.stamp.specs.Stamps.{is_above}
 use Rattle.stamp.proofs.Laws.{above_true}
 use Rattle.store.specs.declared.Write.{Write}
-use Rattle.store.specs.{live_count, members, row_of, highest_of, applied_by, entry_at, value_at, stamp_at, logged}
+use Rattle.store.specs.{live_count, members, applied_by, entry_at, logged}
 use Rattle.chain.specs.{head_of}
 use Rattle.replicas.specs.Replicas.{applying}
-use Rattle.chain.proofs.Members.{count_same, head_same}
-use Rattle.replicas.proofs.Cells.{SizedStore, Named, row_apart, sized_applying, members_applying, entry_applying, applied_applying_same, applied_applying_other}
+use Rattle.chain.proofs.Members.{head_same}
+use Rattle.replicas.proofs.Cells.{SizedStore, row_apart, sized_applying, members_applying, entry_applying, applied_applying_same, applied_applying_other}
 use Rattle.replicas.proofs.Cells.{sized_logged, members_logged, highest_logged, applied_logged, value_logged, stamp_logged, entry_logged_same, entry_logged_other, positions_apart}
 use Rattle.quorum.specs.{logged_by, acknowledged_by, is_entry, items_taken, linked_items, has_room, links_have_room, last_logged, unexecuted, logs, sending_item, count_logged, logging}
 use Rattle.quorum.specs.{next_entry, is_holder, count_of, majority_holds, executes, executing}
-use Rattle.quorum.proofs.Items.{entries_in, stamps_in, entries_append, stamps_append, in_turn_snoc}
+use Rattle.quorum.proofs.Items.{entries_append, stamps_append, in_turn_snoc}
 use Rattle.quorum.proofs.Counts.{count_most}
 use Rattle.quorum.proofs.Cells.{SameTables, same_counted, same_sending, logged_counted, logged_counted_other, acknowledged_counted, item_counted, logged_sending, acknowledged_sending, item_sent, item_sent_other}
 use Rattle.quorum.proofs.Cells.{logged_behind, acknowledged_behind, item_behind, applying_behind, logging_behind}

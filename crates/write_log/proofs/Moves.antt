@@ -8,7 +8,7 @@ use native.Mathlib.Numerals.{add-one}
 use native.Mathlib.Decide.{dec_lt}
 use native.Mathlib.Omega.{arith}
 use lib.ListN.{length, get_or, take, length-append, get_or-append}
-use lib.Seq.{take-length, length-take-le, take-take, take-append-le, get_or-take, get_or-append_seam, slice, slice_empty, slice-cons}
+use lib.Seq.{length-take-le, take-take, take-append-le, get_or-take, get_or-append_seam, slice, slice_empty, slice-cons}
 use Rattle.store.specs.declared.Write.{Write}
 use Rattle.store.specs.{live_count, highest_of, applied_by, entry_at, logged}
 use Rattle.chain.specs.{chain_place, is_live, member_at, head_of, tail_of, removed}

@@ -1,41 +1,33 @@
 -- A quorum store shows one log: the leader has logged all of it and executed the first n writes, every replica has taken a front part of the items that the leader sent, and its tables are
 -- those of the writes that it has executed.
 use mathlib.Core.Path.{◌≡◌, refl, sym, ap, ◌∙◌, subst}
-use mathlib.Core.Bool.{Bool, true, false, cond}
-use mathlib.Core.List.{List, [], ◌∷◌, ◌++◌}
-use mathlib.Core.Logic.{inl, inr}
-use Prim.Native.Nat.{ℕ, suc, ◌+◌, ◌-◌, ◌*◌, ◌%◌, ◌≤◌, ◌<◌, max}
+use mathlib.Core.Bool.{Bool, true, false}
+use mathlib.Core.List.{List, []}
+use Prim.Native.Nat.{ℕ, suc, ◌+◌, ◌≤◌, ◌<◌}
 use native.Mathlib.Numerals.{add-one}
-use native.Mathlib.Decide.{ℕ_discrete, dec_lt}
+use native.Mathlib.Decide.{ℕ_discrete}
 use native.Mathlib.Omega.{arith}
-use lib.Dec.{eqb, leb, ltb}
-use lib.ListN.{length, get_or, take, length-append, get_or-append}
-use lib.Seq.{take-nil, take-append-le, take-append_seam, take_all, take-length, take-suc, length-take-le, get_or-append_seam}
-use borrow.Author.Tests.{eqb-true, eqb-false, ltb-true, le-leb}
+use lib.ListN.{length, get_or, take}
+use lib.Seq.{take-nil, take_all, length-take-le}
 use Rattle.limits.specs as limits
 use Rattle.history.specs.History.{◌∈◌}
 use Rattle.history.proofs.Lists.{in_get_d}
-use Rattle.lists.proofs.AllOf.{all_member}
-use Rattle.stamp.specs.Stamps.{is_above}
-use Rattle.stamp.proofs.Laws.{above_true}
 use Rattle.store.specs.declared.Write.{Write}
-use Rattle.store.specs.{live_count, members, row_of, highest_of, applied_by, entry_at, value_at, stamp_at, logged, logged_cell, acknowledged_cell, item_cell}
+use Rattle.store.specs.{live_count, members, row_of, highest_of, applied_by, entry_at, value_at}
 use Rattle.chain.specs.{chain_place, head_of, permitting, empty_store}
 use Rattle.replicas.specs.Replicas.{applying}
 use Rattle.chain.proofs.Members.{head_is, member_in, in_live, place_at, place_below, count_same, head_same}
 use Rattle.replicas.proofs.Shape.{sized_empty, count_empty, member_empty, highest_empty, applied_empty, value_empty, stamp_empty}
 use Rattle.replicas.proofs.Descending.{descending_empty}
 use Rattle.replicas.proofs.Cells.{SizedStore, Named, row_apart, sized_applying, members_applying, entry_applying, applied_applying_same, applied_applying_other}
-use Rattle.replicas.proofs.Cells.{sized_logged, members_logged, highest_logged, applied_logged, value_logged, stamp_logged, entry_logged_same, entry_logged_other, positions_apart}
 use Rattle.replicas.proofs.Cells.{sized_permitting, members_permitting, highest_permitting, applied_permitting, entry_permitting, value_permitting, stamp_permitting}
-use Rattle.quorum.specs.{logged_by, acknowledged_by, is_entry, items_taken, linked_items, has_room, links_have_room, last_logged, unexecuted, logs, sending_item, count_logged, logging}
-use Rattle.quorum.specs.{next_is_entry, next_entry, taking_item, acknowledging, is_holder, count_of, majority_holds, executes, executing, quorum_store}
-use Rattle.quorum.proofs.Items.{entries_in, stamps_in, counts_together, entries_append, stamps_append, stamps_take, entries_most, entry_next, stamp_next, entry_stays, InTurn, in_turn_snoc, kept_most}
-use Rattle.quorum.proofs.Counts.{count_most}
-use Rattle.quorum.proofs.Cells.{SameTables, same_counted, same_sending, same_acknowledging, same_start, logged_start, acknowledged_start}
-use Rattle.quorum.proofs.Cells.{logged_counted, logged_counted_other, acknowledged_counted, item_counted, logged_sending, acknowledged_sending, item_sent, item_sent_other}
-use Rattle.quorum.proofs.Cells.{acknowledged_same, acknowledged_other, logged_acknowledging, item_acknowledging, logged_behind, acknowledged_behind, item_behind, applying_behind, logging_behind, permitting_behind}
-use Rattle.write_log.proofs.Log.{values, stamps, top, Rising, top_take}
+use Rattle.quorum.specs.{logged_by, acknowledged_by, is_entry, items_taken, count_logged}
+use Rattle.quorum.specs.{next_is_entry, next_entry, acknowledging, quorum_store}
+use Rattle.quorum.proofs.Items.{entries_in, stamps_in, counts_together, stamps_take, entries_most, entry_next, stamp_next, entry_stays, InTurn, kept_most}
+use Rattle.quorum.proofs.Cells.{same_counted, same_acknowledging, same_start, logged_start, acknowledged_start}
+use Rattle.quorum.proofs.Cells.{logged_counted, logged_counted_other, acknowledged_counted, item_counted}
+use Rattle.quorum.proofs.Cells.{acknowledged_same, acknowledged_other, logged_acknowledging, item_acknowledging, logged_behind, acknowledged_behind, item_behind, applying_behind, permitting_behind}
+use Rattle.write_log.proofs.Log.{values, top, Rising}
 use Rattle.write_log.proofs.Holds.{Small, no_write, Holds, holds_as, holds_next, holds_other}
 
 -- replica r has taken a front part of the items, and its link holds the rest, at most 64

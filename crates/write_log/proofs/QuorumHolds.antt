@@ -1,13 +1,13 @@
 -- What holds of a quorum store in every run, and that everything its replicas do keeps it: the log is shown, the places of the order stay, and every executed write stands in the
 -- logs of a majority.
-use mathlib.Core.Path.{◌≡◌, refl, sym, ap, ◌∙◌, subst}
+use mathlib.Core.Path.{◌≡◌, refl, sym, ap, ◌∙◌}
 use mathlib.Core.Bool.{Bool, true, false}
 use mathlib.Core.List.{List, [], ◌∷◌, ◌++◌}
 use Prim.Native.Nat.{ℕ, suc, ◌+◌, ◌*◌, ◌≤◌, ◌<◌, max}
 use native.Mathlib.Decide.{ℕ_discrete}
 use native.Mathlib.Omega.{arith}
 use lib.Dec.{leb, ltb}
-use lib.ListN.{length, get_or, set, length-append}
+use lib.ListN.{length, set, length-append}
 use lib.Seq.{get_or-set_other}
 use borrow.Author.Tests.{leb-true, le-leb, ltb-true}
 use Rattle.history.specs.History.{◌∈◌}
@@ -16,12 +16,12 @@ use Rattle.store.specs.declared.Write.{Write}
 use Rattle.store.specs.{last_number_cell, join_cell, kind_cell, logged_cell, acknowledged_cell, item_cell, live_count, members, row_of, logged, is_quorum}
 use Rattle.chain.specs.{head_of, permitting, empty_store}
 use Rattle.replicas.specs.Replicas.{next_position, applying}
-use Rattle.chain.proofs.Members.{count_members, count_same, head_same}
+use Rattle.chain.proofs.Members.{count_members, count_same}
 use Rattle.replicas.proofs.Cells.{row_apart}
 use Rattle.replicas.proofs.Shape.{count_empty}
 use Rattle.quorum.specs.{logged_by, acknowledged_by, items_taken, linked_items, logs, sending_item, count_logged, logging, next_is_entry, next_entry, acknowledging, count_of, executes, executing, quorum_store}
 use Rattle.quorum.proofs.Counts.{count_most}
-use Rattle.quorum.proofs.Cells.{item_from, same_start, logged_start, logged_counted, logged_counted_other, logged_acknowledging, logged_behind, applying_behind, permitting_behind, quorum_start}
+use Rattle.quorum.proofs.Cells.{item_from, same_start, logged_counted, logged_counted_other, logged_acknowledging, logged_behind, applying_behind, permitting_behind, quorum_start}
 use Rattle.write_log.proofs.Log.{Rising}
 use Rattle.write_log.proofs.Holds.{Small}
 use Rattle.write_log.proofs.Places.{Places, SamePlaces, live_count_same, members_as, places_same, places_trans, places_applying, places_logged, places_permitting, places_start}

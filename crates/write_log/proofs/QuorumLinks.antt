@@ -1,15 +1,12 @@
 -- The links of a quorum store, in the words of document 02, Req 11: 'sends each down an ordered link of 64 entries and executed stamps to every follower', 'put its executed stamp in every
 -- link', 'Advancing a follower logs the entry', 'a follower executes up to that stamp on taking it'.
 use mathlib.Core.Path.{◌≡◌, refl, sym, ap, ◌∙◌, subst}
-use mathlib.Core.Bool.{Bool, true, false, cond}
+use mathlib.Core.Bool.{Bool, true, false}
 use mathlib.Core.List.{List, [], ◌∷◌, ◌++◌}
-use Prim.Native.Nat.{ℕ, zero, suc, ◌+◌, ◌-◌, ◌≤◌, ◌<◌}
-use native.Mathlib.Numerals.{add-one}
-use native.Mathlib.Decide.{ℕ_discrete}
+use Prim.Native.Nat.{ℕ, suc, ◌+◌, ◌≤◌, ◌<◌}
 use native.Mathlib.Omega.{arith}
-use lib.ListN.{length, get_or, take, drop, length-append, length-drop, take-append-drop, get_or-append}
-use lib.Seq.{take-append-le, take_all, drop-append-le, drop-cons, get_or-drop, get_or-append_seam, length-take-le}
-use Rattle.limits.specs as limits
+use lib.ListN.{length, get_or, take, drop, length-drop, take-append-drop, get_or-append}
+use lib.Seq.{take_all, drop-append-le, drop-cons, get_or-drop, get_or-append_seam}
 use Rattle.history.specs.History.{◌∈◌}
 use Rattle.store.specs.declared.Write.{Write}
 use Rattle.store.specs.{members, applied_by, entry_at}
@@ -19,11 +16,11 @@ use Rattle.replicas.proofs.Cells.{members_applying, applied_applying_same}
 use Rattle.quorum.specs.{logged_by, is_entry, items_taken, linked_items, logs, count_logged, logging, next_is_entry, next_entry, executes, executing}
 use Rattle.quorum.specs.Links.{Item, entry, executed, items as itemsFrom, link_to}
 use Rattle.quorum.proofs.Cells.{same_counted, logged_counted, logged_behind, applying_behind}
-use Rattle.quorum.proofs.Items.{entries_in, stamps_in, counts_together, entries_append, stamps_append}
+use Rattle.quorum.proofs.Items.{entries_in, stamps_in, entries_append, stamps_append}
 use Rattle.write_log.proofs.Log.{Rising}
 use Rattle.write_log.proofs.Holds.{Small, no_write}
-use Rattle.write_log.proofs.Quorum.{Follows, ShowsQuorum, made_entries, made_stamps, executed_is, executed_logged, entries_kept, next_is, entry_there, shows_entry_taken, executed_there, next_entry_is, shows_stamp_taken}
-use Rattle.write_log.proofs.Leader.{same, keeps, other_counts, applied_all, shows_logging, logged_all, others_apply, next_there, executed_entry, shows_executing}
+use Rattle.write_log.proofs.Quorum.{ShowsQuorum, made_entries, made_stamps, executed_is, executed_logged, entries_kept, next_is, entry_there, shows_entry_taken, executed_there, next_entry_is, shows_stamp_taken}
+use Rattle.write_log.proofs.Leader.{same, keeps, other_counts, applied_all, shows_logging, logged_all, others_apply, executed_entry, shows_executing}
 
 -- the items with these kinds, for a follower that has logged l entries and executed e
 abbrev pub sent_items : List Write → List Bool → ℕ → ℕ → List Item

@@ -2,12 +2,12 @@
 use mathlib.Core.Path.{◌≡◌, refl, ap, ◌∙◌}
 use mathlib.Core.Bool.{true, false}
 use mathlib.Core.List.{List}
-use Prim.Native.Nat.{ℕ, zero, suc, ◌+◌, ◌*◌, ◌≤◌, ◌<◌, max}
+use Prim.Native.Nat.{ℕ, zero, suc, ◌+◌, ◌*◌, max}
 use native.Mathlib.Omega.{arith}
 use lib.Dec.{eqb}
 use lib.ListN.{get_or, set}
 use lib.Seq.{get_or-set_other}
-use Rattle.lists.proofs.Tests.{by_test, both}
+use Rattle.lists.proofs.Tests.{both}
 use Rattle.stamp.specs.Stamps.{set_stamp}
 use Rattle.stamp.proofs.Cells.{cell_beside}
 use Rattle.store.specs.declared.Write.{Write}
@@ -23,7 +23,7 @@ use Rattle.replicas.proofs.Shape.{blank_cell}
 use Rattle.quorum.proofs.Cells.{item_from}
 use Rattle.write_log.proofs.Shows.{Shows}
 use Rattle.write_log.proofs.Joined.{JoinInvariant}
-use Rattle.write_log.proofs.Without.{ended, table, without_is}
+use Rattle.write_log.proofs.Without.{table, without_is}
 
 -- t is of the kind of s
 abbrev pub SameKind : List ℕ → List ℕ → Type 0
