@@ -1,7 +1,7 @@
 /* The proved model, for callers in C, on x86-64. Two archives, of which a caller links one or both:
  *
- *   target/staticlib/libwoldladle.a        sessions, step by step (`rt staticlib woldladle` writes it)
- *   target/staticlib/libwoldladle_runs.a   whole runs, woldladle_run, woldladle_draw and woldladle_shorten (`rt staticlib woldladle_runs`)
+ *   target/staticlib/libwoldladle.a        sessions, step by step (`./run --build` writes both)
+ *   target/staticlib/libwoldladle_runs.a   whole runs, woldladle_run, woldladle_draw and woldladle_shorten
  *
  * What a session is lent, and nothing else: the libraries allocate no memory and keep nothing between calls.
  *

@@ -1,5 +1,4 @@
-//! Links the static libraries that `rt staticlib woldladle` and
-//! `rt staticlib woldladle_runs` write.
+//! Links the static libraries that `./run --build` writes.
 
 fn main() {
     let folder = std::env::var("WOLDLADLE_LIB").unwrap_or_else(|_| {

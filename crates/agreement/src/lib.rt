@@ -1,10 +1,14 @@
 // Whether the model prints for a stored example what another model prints for it.
 #![tactic(auto)]
 
-ghost use Rattle.std.specs.Prelude.{◌≡◌, false, cond, ℕ, ◌+◌, ◌≤◌, min, ltb, length, take};
-ghost use Rattle.io.specs.Counts.{IsPrefixLen};
+ghost use Rattle.std.specs.Prelude.{◌≡◌, false, cond, ℕ, ◌+◌, ◌<◌, ◌≤◌, min, ltb, length, take, IfOk};
 ghost use Rattle.runs.specs.Runs.{printed};
-ghost use Rattle.agreement.specs.{stands_in, same_bytes, output_room, outputs_of};
+ghost use Rattle.agreement.specs.{IsPrefixLen, stands_in, same_bytes, output_room, outputs_of};
+
+use std::fs::File;
+use std::io::Read;
+use std::rt::Files;
+use std::{io, str};
 
 // Room for the output of any input.
 const OUTPUT_ROOM: usize = 3276800;
@@ -61,17 +65,43 @@ fn append(buf: &mut [u8], at: usize, from: &[u8]) -> usize
     at + n
 }
 
-// Reads the file NAME.SUFFIX, as far as the buffer has room; nothing where there is none. How many bytes were read.
-pub fn read_named(name: &[u8], suffix: &[u8], buf: &mut [u8]) -> usize
-    ensures { IsPrefixLen result buf.new }
+// Reads until the buffer is full or there is no more. How many bytes were read.
+fn read_full(file: &mut impl Read, buf: &mut [u8]) -> io::Result<usize>
+    ensures { IfOk result (λ n. IsPrefixLen n buf.new) }
 {
-    let mut path = io::buffer();
+    let mut done = 0;
+    while done < buf.len() {
+        let n = file.read(&mut buf[done..])?;
+        if n == 0 {
+            return Ok(done);
+        }
+        done += n;
+    }
+    Ok(done)
+}
+
+// Reads a file, as far as the buffer has room; nothing where it cannot be opened. How many bytes were read. A path is text.
+fn read_path(rt: &impl Files, path: &[u8], buf: &mut [u8]) -> io::Result<usize>
+    ensures { IfOk result (λ n. IsPrefixLen n buf.new) }
+{
+    let Ok(path) = str::from_utf8(path) else {
+        return Ok(0);
+    };
+    let Ok(mut file) = File::open(rt, path) else {
+        return Ok(0);
+    };
+    read_full(&mut file, buf)
+}
+
+// Reads the file NAME.SUFFIX, as far as the buffer has room; nothing where there is none. How many bytes were read. An error is one of reading.
+pub fn read_named(rt: &impl Files, name: &[u8], suffix: &[u8], buf: &mut [u8]) -> io::Result<usize>
+    ensures read { IfOk result (λ n. IsPrefixLen n buf.new) }
+    ensures room { length buf.new ≡ length buf.old }
+{
+    let mut path = [0; 4096];
     let dot = append(&mut path, 0, name);
     let end = append(&mut path, dot, suffix);
-    let fd = os::open_read(&path[..end]);
-    let n = io::read_full(fd, &mut *buf);
-    libc::close(fd);
-    n
+    read_path(rt, &path[..end], buf)
 }
 
 // The output of an input, at the start of a buffer that has room for any. How many bytes it has.
@@ -82,25 +112,39 @@ fn print(input: &[u8], out: &mut [u8]) -> usize
     runs::print(input, &mut *out)
 }
 
-fn agrees_with_room(name: &[u8], input: &mut [u8], expected: &mut [u8], out: &mut [u8]) -> bool
+fn agrees_with_room(
+    rt: &impl Files,
+    name: &[u8],
+    input: &mut [u8],
+    expected: &mut [u8],
+    out: &mut [u8],
+) -> io::Result<bool>
     requires { output_room ≤ length out.old }
-    ensures { (n : ℕ) × (m : ℕ) × (result ≡ same_bytes (printed (take n input.new)) (take m expected.new)) }
+    ensures { IfOk result (λ r. (n : ℕ) × (m : ℕ) × (r ≡ same_bytes (printed (take n input.new)) (take m expected.new))) }
 {
-    let n = read_named(name, b".records", &mut *input);
-    let m = read_named(name, b".lines", &mut *expected);
+    let n = read_named(rt, name, b".records", &mut *input)?;
+    let m = read_named(rt, name, b".lines", &mut *expected)?;
     let used = print(&input[..n], &mut *out);
-    same(&out[..used], &expected[..m])
+    Ok(same(&out[..used], &expected[..m]))
 }
 
 // Whether the model prints for the example what is expected: its records and its lines are read from two files, into the front of two buffers. No where the third has not
-// room for any output.
-pub fn agrees(name: &[u8], input: &mut [u8], expected: &mut [u8], out: &mut [u8]) -> bool
-    ensures { (n : ℕ) × (m : ℕ) × (result ≡ cond (ltb (length out.old) output_room) false (same_bytes (printed (take n input.new)) (take m expected.new))) }
+// room for any output. An error is one of reading.
+pub fn agrees(
+    rt: &impl Files,
+    name: &[u8],
+    input: &mut [u8],
+    expected: &mut [u8],
+    out: &mut [u8],
+) -> io::Result<bool>
+    ensures answer { IfOk result (λ r. (n : ℕ) × (m : ℕ) × (r ≡ cond (ltb (length out.old) output_room) false (same_bytes (printed (take n input.new)) (take m expected.new)))) }
+    ensures short { length out.old < output_room → result ≡ Ok false }
+    ensures room { (length input.new ≡ length input.old) × (length expected.new ≡ length expected.old) × (length out.new ≡ length out.old) }
 {
     if out.len() < OUTPUT_ROOM {
-        return false; // and no file is read
+        return Ok(false); // and no file is read
     }
-    agrees_with_room(name, &mut *input, &mut *expected, &mut *out)
+    agrees_with_room(rt, name, &mut *input, &mut *expected, &mut *out)
 }
 
 // The place after n bytes, or the end.

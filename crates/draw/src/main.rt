@@ -2,12 +2,20 @@
 // refusal goes to standard error, and so does the usage where the words are others.
 #![tactic(auto)]
 
-use libc::{STDERR_FILENO, STDOUT_FILENO};
+use std::env::FillError;
+use std::io;
+use std::rt::Env;
 
 // A larger number is read as this one, which is above every number that is taken.
 const LARGE: u64 = 1000000000000;
 
 const LAST_SEED: u64 = 4294967295;
+
+// Room for a word of the command. A longer one is read as no number.
+const WORD: usize = 4096;
+
+// Room for the records of any run that is drawn.
+const ROOM: usize = 65536;
 
 // A word of the command: its number, and whether it is digits only.
 #[derive(Clone, Copy)]
@@ -55,41 +63,54 @@ fn number(text: &[u8]) -> u64 {
     n
 }
 
-fn read_word(i: usize) -> Argument {
-    let mut text = io::buffer();
-    let n = os::arg(i, &mut text);
+fn read_word(rt: &impl Env, i: usize) -> Argument {
+    let mut text = [0; WORD];
+    let n = rt.arg(i, &mut text).unwrap_or(0);
     Argument {
         is_number: is_number(&text[..n]),
         number: number(&text[..n]),
     }
 }
 
-fn usage() {
-    io::write_all(STDERR_FILENO, b"usage: draw SEED N STEPS\n");
+// Whether the command has a word at a place, whatever its length. The program's own name is at 0.
+fn has_word(rt: &impl Env, i: usize) -> bool {
+    match rt.arg(i, &mut []) {
+        Ok(_) => true,
+        Err(FillError::TooLong) => true,
+        Err(FillError::NotPresent) => false,
+    }
+}
+
+fn has_three_words(rt: &impl Env) -> bool {
+    if has_word(rt, 4) {
+        return false;
+    }
+    has_word(rt, 3)
+}
+
+fn usage(rt: &impl Eprint) -> io::Result<()> {
+    rt.eprintln("usage: draw SEED N STEPS")
 }
 
 // Minus the refusal, as a line.
-fn refuse(answer: i64) {
+fn refuse(rt: &impl Eprint, answer: i64) -> io::Result<()> {
     if answer == -2 {
-        io::write_all(STDERR_FILENO, b"no 2\n");
-        return;
+        return rt.eprintln("no 2");
     }
     if answer == -20 {
-        io::write_all(STDERR_FILENO, b"no 20\n");
-        return;
+        return rt.eprintln("no 20");
     }
-    io::write_all(STDERR_FILENO, b"no 15\n");
+    rt.eprintln("no 15")
 }
 
-fn draw(seed: u32, n: u64, steps: u64) {
-    let mut out = io::large_buffer();
+fn draw(rt: &(impl Print + Eprint), seed: u32, n: u64, steps: u64) -> io::Result<()> {
+    let mut out = [0; ROOM];
     let answer = draws::run(seed, n, steps, &mut out);
     if answer < 0 {
-        refuse(answer);
-        return;
+        return refuse(rt, answer);
     }
-    let count = io::count(answer as isize, &out);
-    io::write_all(STDOUT_FILENO, &out[..count]);
+    let count = (answer as usize).min(ROOM);
+    rt.write_all(&out[..count])
 }
 
 fn are_numbers(a: bool, b: bool, c: bool) -> bool {
@@ -102,22 +123,19 @@ fn are_numbers(a: bool, b: bool, c: bool) -> bool {
     c
 }
 
-fn main() {
-    let seed = read_word(1);
-    let n = read_word(2);
-    let steps = read_word(3);
-    if os::arg_count() != 4 {
-        usage();
-        return;
+fn main(rt: HostRuntime) -> io::Result<()> {
+    let seed = read_word(&rt, 1);
+    let n = read_word(&rt, 2);
+    let steps = read_word(&rt, 3);
+    if !has_three_words(&rt) {
+        return usage(&rt);
     }
     if !are_numbers(seed.is_number, n.is_number, steps.is_number) {
-        usage();
-        return;
+        return usage(&rt);
     }
     let first = seed.number;
     if LAST_SEED < first {
-        usage();
-        return;
+        return usage(&rt);
     }
-    draw(first as u32, n.number, steps.number);
+    draw(&rt, first as u32, n.number, steps.number)
 }

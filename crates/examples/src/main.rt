@@ -4,31 +4,37 @@
 
 ghost use Rattle.std.specs.Prelude.{◌≤◌, length};
 
-use libc::STDOUT_FILENO;
+use std::alloc::{AllocError, Global};
+use std::io;
+use std::rt::Files;
+
+// Room for the names of the examples.
+const NAMES: usize = 65536;
 
 // Room for the lines of any input: `printed_short`, crates/runs/proofs/Whole.antt.
-fn output_room() -> [u8; 3276800] {
-    [0; 3276800]
+fn output_room(alloc: Global) -> Result<Vec<u8>, AllocError> {
+    vec![in alloc; 0; 3276800]
 }
 
-fn say(name: &[u8]) {
-    io::write_all(STDOUT_FILENO, name);
-    io::write_all(STDOUT_FILENO, b" differs\n");
+fn say(rt: &impl Print, name: &[u8]) -> io::Result<()> {
+    rt.write_all(name)?;
+    rt.println(" differs")
 }
 
 // Tries the example, says its name where it differs, and answers the number of examples that differ.
 fn count_differing(
+    rt: &(impl Files + Print),
     name: &[u8],
     differ: u32,
     input: &mut [u8],
     expected: &mut [u8],
     out: &mut [u8],
-) -> u32 {
-    if agreement::agrees(name, &mut *input, &mut *expected, &mut *out) {
-        return differ;
+) -> io::Result<u32> {
+    if agreement::agrees(rt, name, &mut *input, &mut *expected, &mut *out)? {
+        return Ok(differ);
     }
-    say(name);
-    more(differ)
+    say(rt, name)?;
+    Ok(more(differ))
 }
 
 fn more(n: u32) -> u32 {
@@ -38,31 +44,35 @@ fn more(n: u32) -> u32 {
     n + 1
 }
 
-fn report(tried: u32, differ: u32) {
-    io::print_decimal(STDOUT_FILENO, tried as u64);
-    io::write_all(STDOUT_FILENO, b" examples, ");
-    io::print_decimal(STDOUT_FILENO, differ as u64);
-    io::write_all(STDOUT_FILENO, b" differ\n");
+fn report(rt: &impl Print, tried: u32, differ: u32) -> io::Result<()> {
+    println!(rt; "{tried} examples, {differ} differ")
 }
 
 // The examples that the index names, one to a line.
-fn try_named(index: &[u8], input: &mut [u8], expected: &mut [u8], out: &mut [u8]) {
+fn try_named(
+    rt: &(impl Files + Print),
+    index: &[u8],
+    input: &mut [u8],
+    expected: &mut [u8],
+    out: &mut [u8],
+) -> io::Result<()> {
     let mut tried = 0;
     let mut differ = 0;
     let mut at = 0;
     while at < index.len() {
         let end = line_end(index, at);
         differ = count_differing(
+            rt,
             &index[at..end],
             differ,
             &mut *input,
             &mut *expected,
             &mut *out,
-        );
+        )?;
         tried = more(tried);
         at = agreement::after(index, end, 1);
     }
-    report(tried, differ);
+    report(rt, tried, differ)
 }
 
 // Where the line that begins at a place ends.
@@ -80,22 +90,26 @@ fn line_end(s: &[u8], at: usize) -> usize
     i
 }
 
-fn try_cuts(input: &mut [u8], expected: &mut [u8], out: &mut [u8]) {
-    let n = agreement::read_named(b"listing", b".records", &mut *input);
-    let m = agreement::read_named(b"listing-cuts", b".lines", &mut *expected);
+fn try_cuts(
+    rt: &(impl Files + Print),
+    input: &mut [u8],
+    expected: &mut [u8],
+    out: &mut [u8],
+) -> io::Result<()> {
+    let n = agreement::read_named(rt, b"listing", b".records", &mut *input)?;
+    let m = agreement::read_named(rt, b"listing-cuts", b".lines", &mut *expected)?;
     if agreement::cuts_agree(&input[..n], &expected[..m], &mut *out) {
-        io::write_all(STDOUT_FILENO, b"the listing cut at each byte agrees\n");
-    } else {
-        say(b"the listing cut at each byte");
+        return rt.println("the listing cut at each byte agrees");
     }
+    say(rt, b"the listing cut at each byte")
 }
 
-fn main() {
+fn main(rt: HostRuntime) -> io::Result<()> {
     let mut input = runs::input_room();
-    let mut expected = output_room();
-    let mut out = output_room();
-    let mut names = io::large_buffer();
-    let n = agreement::read_named(b"index", b"", &mut names);
-    try_named(&names[..n], &mut input, &mut expected, &mut out);
-    try_cuts(&mut input, &mut expected, &mut out);
+    let mut expected = output_room(rt.alloc())?;
+    let mut out = output_room(rt.alloc())?;
+    let mut names = [0; NAMES];
+    let n = agreement::read_named(&rt, b"index", b"", &mut names)?;
+    try_named(&rt, &names[..n], &mut input, &mut expected, &mut out)?;
+    try_cuts(&rt, &mut input, &mut expected, &mut out)
 }

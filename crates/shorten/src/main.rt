@@ -2,46 +2,47 @@
 // standard error.
 #![tactic(auto)]
 
-use libc::{STDERR_FILENO, STDIN_FILENO, STDOUT_FILENO};
+use std::io;
+use std::io::Read;
+
+// The bytes of the longest input and one more, which tells an input that is too long. No more are read.
+const MOST_READ: u64 = 65537;
+
+// Room for the records of any input that is shortened.
+const ROOM: usize = 65536;
 
 // Minus the refusal, as a line.
-fn refuse(answer: i64) {
+fn refuse(rt: &impl Eprint, answer: i64) -> io::Result<()> {
     if answer == -1 {
-        io::write_all(STDERR_FILENO, b"no 1\n");
-        return;
+        return rt.eprintln("no 1");
     }
     if answer == -2 {
-        io::write_all(STDERR_FILENO, b"no 2\n");
-        return;
+        return rt.eprintln("no 2");
     }
     if answer == -14 {
-        io::write_all(STDERR_FILENO, b"no 14\n");
-        return;
+        return rt.eprintln("no 14");
     }
     if answer == -21 {
-        io::write_all(STDERR_FILENO, b"no 21\n");
-        return;
+        return rt.eprintln("no 21");
     }
     if answer == -22 {
-        io::write_all(STDERR_FILENO, b"no 22\n");
-        return;
+        return rt.eprintln("no 22");
     }
-    io::write_all(STDERR_FILENO, b"no 15\n");
+    rt.eprintln("no 15")
 }
 
-fn shorten(input: &[u8]) {
-    let mut out = io::large_buffer();
+fn shorten(rt: &(impl Print + Eprint), input: &[u8]) -> io::Result<()> {
+    let mut out = [0; ROOM];
     let answer = shortening::shorten(input, &mut out);
     if answer < 0 {
-        refuse(answer);
-        return;
+        return refuse(rt, answer);
     }
-    let count = io::count(answer as isize, &out);
-    io::write_all(STDOUT_FILENO, &out[..count]);
+    let count = (answer as usize).min(ROOM);
+    rt.write_all(&out[..count])
 }
 
-fn main() {
-    let mut input = runs::input_room();
-    let length = io::read_full(STDIN_FILENO, &mut input);
-    shorten(&input[..length]);
+fn main(rt: HostRuntime) -> io::Result<()> {
+    let mut input = Vec::new(rt.alloc());
+    rt.reader().take(MOST_READ).read_to_end(&mut input)?;
+    shorten(&rt, &input)
 }
