@@ -1,6 +1,5 @@
-use Rattle.std.proofs.Common.{◌≡◌, refl, sym, ap, ◌∙◌, arith, length}
+use Rattle.std.proofs.Common.{◌≡◌, refl, sym, ap, ◌∙◌, arith, length, take}
 use Rattle.runs.specs.Runs.{printed}
-use Rattle.std.proofs.Common.{take}
 use Rattle.agreement.specs.{stands_in, outputs_to}
 use Rattle.agreement.proofs.Agreement.{stands_none, cut_differs, cut_stands, cuts_end}
 use Rattle.agreement.proofs.cuts_agree_with_room.Goals as goal
