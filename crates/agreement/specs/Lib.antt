@@ -2,10 +2,6 @@
 use Rattle.std.specs.Prelude.{◌≡◌, Bool, true, false, cond, List, [], ◌++◌, ℕ, zero, suc, ◌+◌, ◌≤◌, leb, eqb, length, get_or, take}
 use Rattle.runs.specs.Runs.{printed}
 
--- a count of bytes at the front of a buffer: it is within the buffer, and the first n bytes are n
-abbrev pub IsPrefixLen : ℕ → List ℕ → Type 0
-IsPrefixLen n xs = (n ≤ length xs) × (n ≡ length (take n xs))
-
 -- the first n bytes of a part stand in s from a place on
 unfoldable pub agree_to : List ℕ → ℕ → List ℕ → ℕ → Bool
 agree_to s at part zero = true

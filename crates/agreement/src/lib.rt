@@ -3,10 +3,10 @@
 
 ghost use Rattle.std.specs.Prelude.{◌≡◌, false, cond, ℕ, ◌+◌, ◌<◌, ◌≤◌, min, ltb, length, take, IfOk};
 ghost use Rattle.runs.specs.Runs.{printed};
-ghost use Rattle.agreement.specs.{IsPrefixLen, stands_in, same_bytes, output_room, outputs_of};
+ghost use Rattle.reading.specs.{IsPrefixLen};
+ghost use Rattle.agreement.specs.{stands_in, same_bytes, output_room, outputs_of};
 
 use std::fs::File;
-use std::io::Read;
 use std::rt::Files;
 use std::{io, str};
 
@@ -65,21 +65,6 @@ fn append(buf: &mut [u8], at: usize, from: &[u8]) -> usize
     at + n
 }
 
-// Reads until the buffer is full or there is no more. How many bytes were read.
-fn read_full(file: &mut impl Read, buf: &mut [u8]) -> io::Result<usize>
-    ensures { IfOk result (λ n. IsPrefixLen n buf.new) }
-{
-    let mut done = 0;
-    while done < buf.len() {
-        let n = file.read(&mut buf[done..])?;
-        if n == 0 {
-            return Ok(done);
-        }
-        done += n;
-    }
-    Ok(done)
-}
-
 // Reads a file, as far as the buffer has room; nothing where it cannot be opened. How many bytes were read. A path is text.
 fn read_path(rt: &impl Files, path: &[u8], buf: &mut [u8]) -> io::Result<usize>
     ensures { IfOk result (λ n. IsPrefixLen n buf.new) }
@@ -90,7 +75,7 @@ fn read_path(rt: &impl Files, path: &[u8], buf: &mut [u8]) -> io::Result<usize>
     let Ok(mut file) = File::open(rt, path) else {
         return Ok(0);
     };
-    read_full(&mut file, buf)
+    reading::read_full(&mut file, buf)
 }
 
 // Reads the file NAME.SUFFIX, as far as the buffer has room; nothing where there is none. How many bytes were read. An error is one of reading.

@@ -2,10 +2,6 @@
 #![tactic(auto)]
 
 use std::io;
-use std::io::Read;
-
-// The bytes of the longest input and one more, which tells an input that is too long. No more are read.
-const MOST_READ: u64 = 65537;
 
 fn print(rt: &impl Print, input: &[u8]) -> io::Result<()> {
     let mut switch = [0; switch::CELLS];
@@ -31,7 +27,7 @@ fn print(rt: &impl Print, input: &[u8]) -> io::Result<()> {
 }
 
 fn main(rt: HostRuntime) -> io::Result<()> {
-    let mut input = Vec::new(rt.alloc());
-    rt.reader().take(MOST_READ).read_to_end(&mut input)?;
-    print(&rt, &input)
+    let mut input = runs::input_room();
+    let length = reading::read_full(&mut rt.reader(), &mut input)?;
+    print(&rt, &input[..length])
 }

@@ -3,10 +3,6 @@
 #![tactic(auto)]
 
 use std::io;
-use std::io::Read;
-
-// The bytes of the longest input and one more, which tells an input that is too long. No more are read.
-const MOST_READ: u64 = 65537;
 
 // Room for the records of any input that is shortened.
 const ROOM: usize = 65536;
@@ -42,7 +38,7 @@ fn shorten(rt: &(impl Print + Eprint), input: &[u8]) -> io::Result<()> {
 }
 
 fn main(rt: HostRuntime) -> io::Result<()> {
-    let mut input = Vec::new(rt.alloc());
-    rt.reader().take(MOST_READ).read_to_end(&mut input)?;
-    shorten(&rt, &input)
+    let mut input = runs::input_room();
+    let length = reading::read_full(&mut rt.reader(), &mut input)?;
+    shorten(&rt, &input[..length])
 }

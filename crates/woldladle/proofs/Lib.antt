@@ -1,5 +1,4 @@
--- What the two walks share; that a refusal changes nothing; that no operation has number 0; that the exported lines are those of the run program.
-mod Parts
+-- That a refusal changes nothing; that no operation has number 0; that the exported lines are those of the run program.
 pub mod Refused
 pub mod Opens
 pub mod Printed
