@@ -23,12 +23,10 @@ fn stands_at(s: &[u8], at: usize, part: &[u8]) -> bool
     if s.len() - at < part.len() {
         return false;
     }
-    let mut i = 0;
-    while i < part.len() {
+    for i in 0..part.len() {
         if s[at + i] != part[i] {
             return false;
         }
-        i += 1;
     }
     true
 }
@@ -36,33 +34,19 @@ fn stands_at(s: &[u8], at: usize, part: &[u8]) -> bool
 fn same(a: &[u8], b: &[u8]) -> bool
     ensures { result ≡ same_bytes a.now b.now }
 {
-    if a.len() != b.len() {
-        return false;
-    }
-    stands_at(a, 0, b)
+    a.len() == b.len() && stands_at(a, 0, b)
 }
 
-fn least(a: usize, b: usize) -> usize
-    ensures { result ≡ min a b }
-{
-    if a < b {
-        return a;
-    }
-    b
-}
-
+// By hand: a place beside the buffer, since callers lend the memory.
 // The bytes go into the buffer from a place on, as many as have room. The place after them.
 fn append(buf: &mut [u8], at: usize, from: &[u8]) -> usize
     requires { at ≤ length buf.old }
     ensures { IsPrefixLen result buf.new }
 {
-    let n = least(from.len(), buf.len() - at);
-    let mut i = 0;
-    while i < n {
-        buf[at + i] = from[i];
-        i += 1;
-    }
-    at + n
+    let n = from.len().min(buf.len() - at);
+    let end = at + n;
+    buf[at..end].copy_from_slice(&from[..n]);
+    end
 }
 
 // Reads a file, as far as the buffer has room; nothing where it cannot be opened. How many bytes were read. A path is text.
@@ -89,12 +73,13 @@ pub fn read_named(rt: &impl Files, name: &[u8], suffix: &[u8], buf: &mut [u8]) -
     read_path(rt, &path[..end], buf)
 }
 
+// By hand: the room is asked of three private functions. A type for a buffer with room would be made in two places and lent on as a slice in the third.
 // The output of an input, at the start of a buffer that has room for any. How many bytes it has.
 fn print(input: &[u8], out: &mut [u8]) -> usize
     requires { output_room ≤ length out.old }
     ensures { IsPrefixLen result out.new × (take result out.new ≡ printed input.now) }
 {
-    runs::print(input, &mut *out)
+    runs::print(input, out)
 }
 
 fn agrees_with_room(
@@ -107,9 +92,9 @@ fn agrees_with_room(
     requires { output_room ≤ length out.old }
     ensures { IfOk result (λ r. (n : ℕ) × (m : ℕ) × (r ≡ same_bytes (printed (take n input.new)) (take m expected.new))) }
 {
-    let n = read_named(rt, name, b".records", &mut *input)?;
-    let m = read_named(rt, name, b".lines", &mut *expected)?;
-    let used = print(&input[..n], &mut *out);
+    let n = read_named(rt, name, b".records", input)?;
+    let m = read_named(rt, name, b".lines", expected)?;
+    let used = print(&input[..n], out);
     Ok(same(&out[..used], &expected[..m]))
 }
 
@@ -129,20 +114,14 @@ pub fn agrees(
     if out.len() < OUTPUT_ROOM {
         return Ok(false); // and no file is read
     }
-    agrees_with_room(rt, name, &mut *input, &mut *expected, &mut *out)
+    agrees_with_room(rt, name, input, expected, out)
 }
 
 // The place after n bytes, or the end.
 pub fn after(s: &[u8], at: usize, n: usize) -> usize
     ensures { result ≡ min (at + n) (length s.now) }
 {
-    if s.len() <= at {
-        return s.len();
-    }
-    if s.len() - at <= n {
-        return s.len();
-    }
-    at + n
+    at.saturating_add(n).min(s.len())
 }
 
 fn cuts_agree_with_room(input: &[u8], expected: &[u8], out: &mut [u8]) -> bool
@@ -150,14 +129,12 @@ fn cuts_agree_with_room(input: &[u8], expected: &[u8], out: &mut [u8]) -> bool
     ensures { result ≡ same_bytes expected.now (outputs_of input.now) }
 {
     let mut at = 0;
-    let mut cut = 0;
-    while cut <= input.len() {
-        let used = print(&input[..cut], &mut *out);
+    for cut in 0..input.len() + 1 {
+        let used = print(&input[..cut], out);
         if !stands_at(expected, at, &out[..used]) {
             return false;
         }
         at = after(expected, at, used);
-        cut += 1;
     }
     at == expected.len()
 }
@@ -166,8 +143,5 @@ fn cuts_agree_with_room(input: &[u8], expected: &[u8], out: &mut [u8]) -> bool
 pub fn cuts_agree(input: &[u8], expected: &[u8], out: &mut [u8]) -> bool
     ensures { result ≡ cond (ltb (length out.old) output_room) false (same_bytes expected.now (outputs_of input.now)) }
 {
-    if out.len() < OUTPUT_ROOM {
-        return false;
-    }
-    cuts_agree_with_room(input, expected, &mut *out)
+    OUTPUT_ROOM <= out.len() && cuts_agree_with_room(input, expected, out)
 }

@@ -11,20 +11,23 @@ ghost use Rattle.protocol.specs.Decisions.{deciding, add_one};
 ghost use Rattle.protocol.specs.Steps.{asking, begin_operation, begin_context};
 
 use contexts::{Context, Objects};
-use limits::{CONTEXTS, LAST_OPERATION, OBJECTS, Object, Operation, Value};
+use limits::{LAST_OPERATION, OBJECTS, Object, Operation, Value};
 use protocol::{Decision, Message, Refusal};
 
 // What a new operation asks of the switch.
+#[tactic(auto, unfolding(protocol::specs::Steps::asking))]
 fn ask(is_write: bool, o: Operation, x: Object, v: Value) -> Message
     ensures { result ≡ asking is_write o x v }
 {
     if is_write {
-        return Message::UnstampedWrite(o, x, v);
+        Message::UnstampedWrite(o, x, v)
+    } else {
+        Message::SwitchRead(o, x)
     }
-    Message::SwitchRead(o, x)
 }
 
 // A new operation begins, with one packet to the switch.
+#[tactic(auto, unfolding(protocol::specs::Steps::begin_operation))]
 pub fn begin(
     opens: &mut [u32; operations::CELLS],
     held: usize,
@@ -35,7 +38,7 @@ pub fn begin(
     ensures { (result ≡ (begin_operation opens.old held is_write x v).decision)
         × (opens.new ≡ (begin_operation opens.old held is_write x v).opens) }
 {
-    if OBJECTS <= (x as usize) {
+    if OBJECTS <= x as usize {
         return decisions::refuse(Refusal::ObjectNumber);
     }
     let last = operations::last(opens);
@@ -49,7 +52,7 @@ pub fn begin(
         return decisions::refuse(Refusal::WaitingFull);
     }
     let o = last + 1;
-    operations::open(&mut *opens, o);
+    operations::open(opens, o);
     let m = ask(is_write, o, x, v);
     decisions::done(decisions::add_one(messages::packet_of(m)))
 }
@@ -61,12 +64,13 @@ fn enter(opens: &mut [u32; operations::CELLS], row: u32, v: Context) -> Decision
         × (opens.new ≡ holding (opening opens.old (last_given opens.old + 1)) row v) }
 {
     let o = operations::last(opens) + 1;
-    operations::open(&mut *opens, o);
-    contexts::hold(&mut *opens, row, v);
+    operations::open(opens, o);
+    contexts::hold(opens, row, v);
     decisions::done(decisions::add_one(messages::packet_of(Message::ContextRead(o, row))))
 }
 
 // A read of a whole context begins, with one packet to the switch.
+#[tactic(auto, using(contexts::proofs::Found::found), unfolding(protocol::specs::Steps::begin_context))]
 pub fn begin_context(opens: &mut [u32; operations::CELLS], held: usize, x: Objects) -> Decision
     ensures { (result ≡ (begin_context opens.old held x).decision)
         × (opens.new ≡ (begin_context opens.old held x).opens) }
@@ -87,9 +91,8 @@ pub fn begin_context(opens: &mut [u32; operations::CELLS], held: usize, x: Objec
     if decisions::is_overfull(held, 0, 1) {
         return decisions::refuse(Refusal::WaitingFull);
     }
-    let row = contexts::free_row(opens);
-    if CONTEXTS <= row {
+    let Some(row) = contexts::free_row(opens) else {
         return decisions::refuse(Refusal::WaitingFull);
-    }
-    enter(&mut *opens, row, v)
+    };
+    enter(opens, row, v)
 }

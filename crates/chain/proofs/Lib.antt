@@ -1,3 +1,4 @@
 -- The laws of the chain for the crates above.
 pub mod Members
 pub mod Numbers
+pub mod Found

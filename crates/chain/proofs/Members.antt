@@ -48,14 +48,6 @@ pub tail_is : (s : List ℕ) → tail_of s ≡ member_at s (live_count s - 1)
 unfolding tail_of
 tail_is s = refl
 
-pub tail_none : (s : List ℕ) → live_count s ≡ 0 → tail_of s ≡ 0
-unfolding tail_of
-tail_none s e = member_past s (live_count s - 1) (omega arith)
-
-pub tail_at : (s : List ℕ) → 0 < live_count s → tail_of s ≡ order_at s (live_count s - 1)
-unfolding tail_of
-tail_at s h = member_order s (live_count s - 1) (omega arith)
-
 pub member_in : (s : List ℕ) (p : ℕ) → p < live_count s → Memᴰ (member_at s p) (members s)
 unfolding member_at
 member_in s p h = at_in (members s) p 0 (omega (arith, count_members s))

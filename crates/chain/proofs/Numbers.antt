@@ -33,10 +33,6 @@ pub head_number_is : (s : List ℕ) → head_number s ≡ number_in s 0
 unfolding head_number
 head_number_is s = refl
 
-pub tail_number_none : (s : List ℕ) → live_count s ≡ 0 → tail_number s ≡ 0
-unfolding tail_number
-tail_number_none s e = number_past s (live_count s - 1) (omega arith)
-
 pub tail_number_at : (s : List ℕ) → 0 < live_count s → tail_number s ≡ number_at s (live_count s - 1)
 unfolding tail_number
 tail_number_at s h = number_order s (live_count s - 1) (omega arith)

@@ -1,5 +1,5 @@
 -- The chain of document 01, 'Parts and how big they are': which replicas are live and in which order, and how that changes. s is what the lent store holds.
-use Rattle.std.specs.Prelude.{Bool, cond, List, ℕ, zero, suc, ◌+◌, ◌-◌, ◌*◌, ◌%◌, get_or, set, replicate, eqb, ltb}
+use Rattle.std.specs.Prelude.{Bool, cond, Option, Some, None, List, ℕ, zero, suc, ◌+◌, ◌-◌, ◌*◌, ◌%◌, get_or, set, replicate, eqb, ltb}
 use Rattle.limits.specs as limits
 use Rattle.lists.specs.{moves, index_of, list_of, all_of}
 use Rattle.store.specs.{live_cell, order_cell, permit_cell, last_number_cell, store_cells, row_of, named, live_count, order_at, number_at, members, permitted_by, is_quorum}
@@ -43,6 +43,13 @@ is_tail s r = eqb (place_of s r + 1) (live_count s)
 -- Req 04: its table is looked up by its number
 unfoldable pub table_of : List ℕ → ℕ → ℕ
 table_of s r = member_at s (place_of s r)
+
+-- the place and the table of a live replica, and none where it is gone
+unfoldable pub found_place : List ℕ → ℕ → Option ℕ
+found_place s r = cond (is_member s r) (Some (place_of s r)) None
+
+unfoldable pub found_table : List ℕ → ℕ → Option ℕ
+found_table s r = cond (is_member s r) (Some (table_of s r)) None
 
 unfoldable pub number_in : List ℕ → ℕ → ℕ
 number_in s place = get_or (numbers s) place 0

@@ -12,6 +12,7 @@ use limits::{Object, Operation};
 use protocol::{Decision, Message};
 use switch::cells;
 
+#[tactic(auto, unfolding(protocol::specs::Reads::is_unmarked))]
 fn is_unmarked(switch: &[u32; switch::CELLS], x: Object) -> bool
     ensures { result ≡ is_unmarked switch.now x }
 {
@@ -22,26 +23,18 @@ fn is_unmarked(switch: &[u32; switch::CELLS], x: Object) -> bool
 fn none_marked(switch: &[u32; switch::CELLS], v: Context) -> bool
     ensures { result ≡ all_of (is_unmarked switch.now) (numbers_of v) }
 {
-    let n = contexts::size(v);
-    let mut i: usize = 0;
-    while i < n {
-        if !is_unmarked(switch, contexts::place(v, i)) {
-            return false;
-        }
-        i += 1;
-    }
-    true
+    (0..contexts::size(v)).all(|i| is_unmarked(switch, contexts::place(v, i)))
 }
 
+#[tactic(auto, unfolding(protocol::specs::Reads::goes_directly))]
 fn goes_directly(switch: &[u32; switch::CELLS], v: Context) -> bool
     ensures { result ≡ goes_directly switch.now (numbers_of v) }
 {
-    if !cells::is_direct(switch) {
-        return false;
-    }
-    none_marked(switch, v)
+    cells::is_direct(switch) && none_marked(switch, v)
 }
 
+#[tactic(auto, unfolding(protocol::specs::Contexts::context_read))]
+// By hand: the three lent arrays one by one, as crates/dispatch says.
 pub fn switch_read(
     switch: &[u32; switch::CELLS],
     store: &[u32; store::CELLS],

@@ -1,17 +1,17 @@
 -- The numbers of a context by their places, and what the loops over them find.
 use mathlib.Core.Path.{◌≡◌, refl, sym, ap, ◌∙◌}
-use mathlib.Core.Bool.{true, false}
+use mathlib.Core.Bool.{Bool, true, false, not, cond}
 use mathlib.Core.List.{List, ◌∷◌, map, Memᴰ}
 use Prim.Native.Nat.{ℕ, zero, suc, ◌≤◌, ◌<◌}
 use native.Mathlib.Omega.{arith}
-use lib.Dec.{leb}
-use lib.ListN.{length, get_or}
-use borrow.Author.Tests.{eq-eqb, ne_eqb, lt-ltb, ltb-true, leb-true}
-use Rattle.lists.specs.{index_of, list_of}
+use lib.Dec.{leb, eqb}
+use lib.ListN.{get_or}
+use borrow.Author.Tests.{eq-eqb, ne_eqb, eqb-true, eqb-false, lt-ltb, ltb-true, leb-true}
+use Rattle.lists.specs.{index_of, list_of, all_of}
 use Rattle.lists.proofs.AllOf.{all_pass, all_member}
-use Rattle.lists.proofs.Index.{index_first, index_none, at_in}
+use Rattle.lists.proofs.Index.{at_in}
 use Rattle.lists.proofs.Tests.{two_pass}
-use Rattle.lists.proofs.Places.{length_list_of, get_d_list_of, list_of_same}
+use Rattle.lists.proofs.Places.{get_d_list_of, list_of_same}
 use Rattle.contexts.specs.declared.Context.{Context}
 use Rattle.contexts.specs.declared.Objects.{Objects}
 use Rattle.contexts.specs.{place_of, size_of, numbers_of, kept_at, mapped, is_object, are_objects, stands_first, is_count, is_context, empty_at, is_naming}
@@ -24,32 +24,30 @@ pub size_within : (v : Context) → size_of v ≤ v.count
 unfolding size_of
 size_within v = omega arith
 
-pub length_numbers : (v : Context) → length (numbers_of v) ≡ size_of v
-unfolding numbers_of
-length_numbers v = length_list_of (place_of v) (size_of v)
-
-pub number_at_lem : (v : Context) (i : ℕ) → i < size_of v → get_or (numbers_of v) i 0 ≡ place_of v i
-unfolding numbers_of
-number_at_lem v i h = get_d_list_of (place_of v) (size_of v) i h
-
 -- ---- the first place of a number
 
-pub place_first : (v : Context) (x i : ℕ) → i < size_of v → ((k : ℕ) → k < i → place_of v k ≡ x → ⊥) → place_of v i ≡ x → index_of (numbers_of v) x ≡ i
-place_first v x i h before e =
-    index_first (numbers_of v) i x (omega (arith, h, length_numbers v)) (λ k b q. before k b (sym (number_at_lem v k (omega (arith, b, h))) ∙ q)) (number_at_lem v i h ∙ e)
+eqb_suc : (a b : ℕ) → eqb a b ≡ eqb (suc a) (suc b)
+eqb_suc a b = go (eqb a b) refl
+  where
+    go : (t : Bool) → eqb a b ≡ t → t ≡ eqb (suc a) (suc b)
+    go true e = sym (eq-eqb (suc a) (suc b) (ap suc (eqb-true a b e)))
+    go false e = sym (ne_eqb (suc a) (suc b) (λ d. eqb-false a b e (omega (arith, d))))
 
-pub place_none : (v : Context) (x : ℕ) → ((k : ℕ) → k < size_of v → place_of v k ≡ x → ⊥) → index_of (numbers_of v) x ≡ size_of v
-place_none v x never =
-    index_none (numbers_of v) x (λ k b q. let s : k < size_of v = omega (arith, b, length_numbers v) in never k s (sym (number_at_lem v k s) ∙ q)) ∙ length_numbers v
+-- a number is the first of its kind where none before it is the same
+first_by_all : (f : ℕ → ℕ) (n i x : ℕ) → i < n → f i ≡ x → all_of (λ q. not (eqb q x)) (list_of f i) ≡ eqb (index_of (list_of f n) x) i
+unfolding all_of list_of index_of
+first_by_all f zero i x h e = absurd (omega (arith, h))
+first_by_all f (suc n) zero x h e = rw (eq-eqb (f 0) x e) refl
+first_by_all f (suc n) (suc i) x h e = go (eqb (f 0) x) (first_by_all (λ k. f (suc k)) n i x (omega (arith, h)) e)
+  where
+    go : (b : Bool) → all_of (λ q. not (eqb q x)) (list_of (λ k. f (suc k)) i) ≡ eqb (index_of (list_of (λ k. f (suc k)) n) x) i
+        → cond (not b) (all_of (λ q. not (eqb q x)) (list_of (λ k. f (suc k)) i)) false ≡ eqb (cond b 0 (suc (index_of (list_of (λ k. f (suc k)) n) x))) (suc i)
+    go true p = sym (ne_eqb 0 (suc i) (λ d. omega (arith, d)))
+    go false p = p ∙ eqb_suc _ i
 
--- the number at a place stands first there, or does not
-pub stands_first_lem : (v : Context) (i : ℕ) → i < size_of v → index_of (numbers_of v) (place_of v i) ≡ i → stands_first (numbers_of v) i ≡ true
-unfolding stands_first
-stands_first_lem v i h e = eq-eqb _ i (ap (index_of (numbers_of v)) (number_at_lem v i h) ∙ e)
-
-pub stands_later : (v : Context) (i : ℕ) → i < size_of v → (index_of (numbers_of v) (place_of v i) ≡ i → ⊥) → stands_first (numbers_of v) i ≡ false
-unfolding stands_first
-stands_later v i h n = ne_eqb _ i (λ e. n (sym (ap (index_of (numbers_of v)) (number_at_lem v i h)) ∙ e))
+pub stands_first_lem : (v : Context) (i : ℕ) → i < size_of v → all_of (λ q. not (eqb q (place_of v i))) (list_of (place_of v) i) ≡ stands_first (numbers_of v) i
+unfolding stands_first numbers_of
+stands_first_lem v i h = first_by_all (place_of v) (size_of v) i (place_of v i) h refl ∙ ap (λ (x : ℕ). eqb (index_of (list_of (place_of v) (size_of v)) x) i) (sym (get_d_list_of (place_of v) (size_of v) i h))
 
 -- ---- a function of every number
 

@@ -1,6 +1,6 @@
 -- Document 02, Req 02: the contexts that are being read. A context is a list of up to eight numbers: the objects of a read until it is answered, and their values then.
 -- Each lies in one of 64 rows of nine cells, behind the open operations: how many numbers there are, and the numbers. A row with none is free. A packet names its row.
-use Rattle.std.specs.Prelude.{Bool, true, false, cond, List, [], ◌∷◌, ℕ, ◌+◌, ◌*◌, ◌%◌, min, eqb, leb, ltb, get_or, set}
+use Rattle.std.specs.Prelude.{Bool, true, false, cond, Option, Some, None, List, [], ◌∷◌, ℕ, ◌+◌, ◌*◌, ◌%◌, min, eqb, leb, ltb, get_or, set}
 use Rattle.limits.specs as limits
 use Rattle.lists.specs.{index_of, list_of, all_of}
 use Rattle.operations.specs.{context_cells}
@@ -107,6 +107,10 @@ context_at cells r =
 -- the first free row, 64 where none is
 unfoldable pub free_row : List ℕ → ℕ
 free_row cells = index_of (list_of (size_at cells) limits.contexts) 0
+
+-- that row, and none where every row is in use
+unfoldable pub found_row : List ℕ → Option ℕ
+found_row cells = cond (ltb (free_row cells) limits.contexts) (Some (free_row cells)) None
 
 -- these numbers, from a place on
 unfoldable pub puts : List ℕ → ℕ → List ℕ → List ℕ

@@ -1,15 +1,16 @@
 // The contexts that are being read: up to eight numbers each, in rows of the cells that lie behind the open operations.
 #![tactic(auto)]
 
-ghost use Rattle.std.specs.Prelude.{◌≡◌, ◌≤◌, ◌<◌};
-ghost use Rattle.lists.specs.{index_of};
+ghost use Rattle.std.specs.Prelude.{◌≡◌, ◌≤◌, ◌<◌, ◌==◌, not};
+ghost use Rattle.lists.specs.{list_of, all_of};
 ghost use Rattle.contexts.specs.{context_of, place_of, size_of, numbers_of, kept_at, is_count, is_object, are_objects, are_different, is_context, empty_at, is_naming};
-ghost use Rattle.contexts.specs.{row_cell, size_at, number_at, context_at, free_row, holding, freeing};
+ghost use Rattle.contexts.specs.{row_cell, size_at, number_at, context_at, found_row, holding, freeing};
 
 use limits::{CONTEXT_LEAST, CONTEXT_MOST, CONTEXTS, OBJECTS};
 use operations::CELLS;
 
 // How many numbers, and the numbers: the objects of a read until it is answered, and their values then.
+// By hand: in place of a count and an array the nine fields stand, since the definitions and theorems over `context n a b c d e f g h` (contexts/specs, protocol/specs, linearizability) name each.
 #[repr(C)]
 #[derive(Clone, Copy)]
 pub struct Context {
@@ -25,6 +26,7 @@ pub struct Context {
 }
 
 // How many objects a step names, and the objects, in the width that its record gives them; 0 behind the last.
+// By hand: the nine fields of a `Context`, which `context_of` and `is_naming` of contexts/specs name one by one.
 #[derive(Clone, Copy)]
 pub struct Objects {
     pub count: u32,
@@ -44,27 +46,19 @@ pub struct Objects {
 pub fn place(v: Context, i: usize) -> u32
     ensures { result ≡ place_of v i }
 {
-    match i {
-        0 => v.first,
-        1 => v.second,
-        2 => v.third,
-        3 => v.fourth,
-        4 => v.fifth,
-        5 => v.sixth,
-        6 => v.seventh,
-        7 => v.eighth,
-        _ => 0,
-    }
+    [
+        v.first, v.second, v.third, v.fourth, v.fifth, v.sixth, v.seventh, v.eighth,
+    ]
+    .get(i)
+    .copied()
+    .unwrap_or(0)
 }
 
 // How many numbers it has.
 pub fn size(v: Context) -> usize
     ensures { (result ≡ size_of v) × (result ≤ 8) }
 {
-    if CONTEXT_MOST < v.count {
-        return 8;
-    }
-    v.count as usize
+    v.count.min(CONTEXT_MOST) as usize
 }
 
 // What stands at place i of n numbers: nothing behind the last.
@@ -77,11 +71,7 @@ pub fn kept(n: u32, i: u32, x: u32) -> u32
 pub fn is_count(n: u32) -> bool
     ensures { result ≡ is_count n }
 {
-    if CONTEXT_LEAST <= n {
-        n <= CONTEXT_MOST
-    } else {
-        false
-    }
+    CONTEXT_LEAST <= n && n <= CONTEXT_MOST
 }
 
 fn is_object(x: u32) -> bool
@@ -94,55 +84,28 @@ fn is_object(x: u32) -> bool
 pub fn are_objects(v: Context) -> bool
     ensures { result ≡ are_objects v }
 {
-    let n = size(v);
-    let mut i: usize = 0;
-    while i < n {
-        if !is_object(place(v, i)) {
-            return false;
-        }
-        i += 1;
-    }
-    true
+    (0..size(v)).all(|i| is_object(place(v, i)))
 }
 
-// The first place at which a number stands, or how many there are where it stands at none.
-fn find(v: Context, x: u32) -> usize
-    ensures { result ≡ index_of (numbers_of v) x }
+// Whether the number at a place stands at none before it.
+fn stands_first(v: Context, i: usize) -> bool
+    ensures { result ≡ all_of (λ q. not (q == place_of v i)) (list_of (place_of v) i) }
 {
-    let n = size(v);
-    let mut i: usize = 0;
-    while i < n {
-        if place(v, i) == x {
-            return i;
-        }
-        i += 1;
-    }
-    n
+    let x = place(v, i);
+    (0..i).all(|k| place(v, k) != x)
 }
 
 // Whether no number stands twice.
 pub fn are_different(v: Context) -> bool
     ensures { result ≡ are_different v }
 {
-    let n = size(v);
-    let mut i: usize = 0;
-    while i < n {
-        if find(v, place(v, i)) != i {
-            return false;
-        }
-        i += 1;
-    }
-    true
+    (0..size(v)).all(|i| stands_first(v, i))
 }
 
 pub fn is_context(v: Context) -> bool
     ensures { result ≡ is_context v }
 {
-    if is_count(v.count) {
-        are_objects(v)
-    } else {
-        false
-    }
+    is_count(v.count) && are_objects(v)
 }
 
 // ---- the objects that a step names
@@ -152,21 +115,21 @@ pub fn context_of(x: Objects) -> Context
 {
     Context {
         count: x.count,
-        first: x.first as u32,
-        second: x.second as u32,
-        third: x.third as u32,
-        fourth: x.fourth as u32,
-        fifth: x.fifth as u32,
-        sixth: x.sixth as u32,
-        seventh: x.seventh as u32,
-        eighth: x.eighth as u32,
+        first: u32::from(x.first),
+        second: u32::from(x.second),
+        third: u32::from(x.third),
+        fourth: u32::from(x.fourth),
+        fifth: u32::from(x.fifth),
+        sixth: u32::from(x.sixth),
+        seventh: u32::from(x.seventh),
+        eighth: u32::from(x.eighth),
     }
 }
 
 fn is_empty(n: u32, i: u32, x: u16) -> bool
     ensures { result ≡ empty_at n i x }
 {
-    if i < n { true } else { x == 0 }
+    i < n || x == 0
 }
 
 // Whether 2 to 8 objects are named, and nothing behind them.
@@ -174,25 +137,13 @@ pub fn is_naming(x: Objects) -> bool
     ensures { result ≡ is_naming x }
 {
     let n = x.count;
-    if !is_count(n) {
-        return false;
-    }
-    if !is_empty(n, 2, x.third) {
-        return false;
-    }
-    if !is_empty(n, 3, x.fourth) {
-        return false;
-    }
-    if !is_empty(n, 4, x.fifth) {
-        return false;
-    }
-    if !is_empty(n, 5, x.sixth) {
-        return false;
-    }
-    if !is_empty(n, 6, x.seventh) {
-        return false;
-    }
-    is_empty(n, 7, x.eighth)
+    is_count(n)
+        && is_empty(n, 2, x.third)
+        && is_empty(n, 3, x.fourth)
+        && is_empty(n, 4, x.fifth)
+        && is_empty(n, 5, x.sixth)
+        && is_empty(n, 6, x.seventh)
+        && is_empty(n, 7, x.eighth)
 }
 
 // ---- the rows
@@ -206,8 +157,7 @@ fn row_cell(r: u32) -> usize
 fn size_at(cells: &[u32; CELLS], r: u32) -> u32
     ensures { result ≡ size_at cells.now r }
 {
-    let i = row_cell(r);
-    cells[i]
+    cells[row_cell(r)]
 }
 
 fn number_at(cells: &[u32; CELLS], r: u32, i: u32) -> u32
@@ -235,18 +185,11 @@ pub fn load(cells: &[u32; CELLS], r: u32) -> Context
     }
 }
 
-// The first free row, 64 where none is.
-pub fn free_row(cells: &[u32; CELLS]) -> u32
-    ensures { result ≡ free_row cells.now }
+// The first free row, where one is.
+pub fn free_row(cells: &[u32; CELLS]) -> Option<u32>
+    ensures { result ≡ found_row cells.now }
 {
-    let mut r: u32 = 0;
-    while r < CONTEXTS {
-        if size_at(cells, r) == 0 {
-            return r;
-        }
-        r += 1;
-    }
-    CONTEXTS
+    (0..CONTEXTS).find(|r| size_at(cells, *r) == 0)
 }
 
 // The row holds a context.
@@ -255,28 +198,19 @@ pub fn hold(cells: &mut [u32; CELLS], r: u32, v: Context)
 {
     let i = row_cell(r);
     cells[i] = v.count;
-    let i = i + 1;
-    cells[i] = v.first;
-    let i = i + 1;
-    cells[i] = v.second;
-    let i = i + 1;
-    cells[i] = v.third;
-    let i = i + 1;
-    cells[i] = v.fourth;
-    let i = i + 1;
-    cells[i] = v.fifth;
-    let i = i + 1;
-    cells[i] = v.sixth;
-    let i = i + 1;
-    cells[i] = v.seventh;
-    let i = i + 1;
-    cells[i] = v.eighth;
+    cells[i + 1] = v.first;
+    cells[i + 2] = v.second;
+    cells[i + 3] = v.third;
+    cells[i + 4] = v.fourth;
+    cells[i + 5] = v.fifth;
+    cells[i + 6] = v.sixth;
+    cells[i + 7] = v.seventh;
+    cells[i + 8] = v.eighth;
 }
 
 // The row is free.
 pub fn free(cells: &mut [u32; CELLS], r: u32)
     ensures { cells.new ≡ freeing cells.old r }
 {
-    let i = row_cell(r);
-    cells[i] = 0;
+    cells[row_cell(r)] = 0;
 }

@@ -1,7 +1,7 @@
 // The commonest decisions, and the edits of the waiting list that they ask for.
 #![tactic(auto)]
 
-ghost use Rattle.std.specs.Prelude.{◌≡◌, ◌-◌};
+ghost use Rattle.std.specs.Prelude.{◌≡◌};
 ghost use Rattle.protocol.specs.Decisions.{no_edit, take_out, take_out_add, take_out_add_two, add_one, add_two, deciding, refusing, dropping, passing, overfull};
 
 use limits::WAITING;
@@ -26,9 +26,7 @@ pub fn take_out(at: usize) -> Edit
     Edit {
         take: true,
         at,
-        add: 0,
-        first: Packet::blank(),
-        second: Packet::blank(),
+        ..no_edit()
     }
 }
 
@@ -36,11 +34,9 @@ pub fn take_out_add(at: usize, p: Packet) -> Edit
     ensures { result ≡ take_out_add at p }
 {
     Edit {
-        take: true,
-        at,
         add: 1,
         first: p,
-        second: Packet::blank(),
+        ..take_out(at)
     }
 }
 
@@ -60,11 +56,9 @@ pub fn add_one(p: Packet) -> Edit
     ensures { result ≡ add_one p }
 {
     Edit {
-        take: false,
-        at: 0,
         add: 1,
         first: p,
-        second: Packet::blank(),
+        ..no_edit()
     }
 }
 
@@ -72,11 +66,10 @@ pub fn add_two(p: Packet, q: Packet) -> Edit
     ensures { result ≡ add_two p q }
 {
     Edit {
-        take: false,
-        at: 0,
         add: 2,
         first: p,
         second: q,
+        ..no_edit()
     }
 }
 
@@ -89,6 +82,7 @@ pub fn done(e: Edit) -> Decision
     }
 }
 
+#[tactic(auto, unfolding(protocol::specs::Decisions::refusing))]
 pub fn refuse(why: Refusal) -> Decision
     ensures { result ≡ refusing why }
 {
@@ -99,6 +93,7 @@ pub fn refuse(why: Refusal) -> Decision
 }
 
 // The packet leaves the list, and nothing else happens.
+#[tactic(auto, unfolding(protocol::specs::Decisions::dropping))]
 pub fn drop_packet(at: usize) -> Decision
     ensures { result ≡ dropping at }
 {
@@ -106,28 +101,17 @@ pub fn drop_packet(at: usize) -> Decision
 }
 
 // The packet leaves the list, and another comes of it.
+#[tactic(auto, unfolding(protocol::specs::Decisions::passing))]
 pub fn pass_on(at: usize, m: Message) -> Decision
     ensures { result ≡ passing at m }
 {
     done(take_out_add(at, messages::packet_of(m)))
 }
 
-fn less(held: usize, out: usize) -> usize
-    ensures { result ≡ held - out }
-{
-    if held < out {
-        return 0;
-    }
-    held - out
-}
-
 // Whether more than 64 packets would wait after `out` go and `add` come.
+#[tactic(auto, unfolding(protocol::specs::Decisions::overfull))]
 pub fn is_overfull(held: usize, out: usize, add: usize) -> bool
     ensures { result ≡ overfull held out add }
 {
-    let left = less(held, out);
-    if WAITING < left {
-        return true;
-    }
-    WAITING - left < add
+    WAITING < held.saturating_sub(out).saturating_add(add)
 }

@@ -11,7 +11,10 @@ use limits::{Object, WAITING};
 use protocol::{Decision, Refusal, Step};
 use waiting::Packet;
 
+// By hand: one match over the steps and no closures, since they are the closed list of the paper, each with fields of its own.
 // What is decided of a step; p is the packet at its position. The lent numbers are left as the step leaves them.
+// By hand: the three lent arrays are three parameters, and no struct of three references: C lends them as three pointers, the contracts say of each what a step leaves in it, and most rules get one or two.
+#[tactic(auto, using(packet_delivery::proofs::Leaves::leaves), unfolding(protocol::specs::Steps::decided))]
 fn decide_step(
     switch: &mut [u32; switch::CELLS],
     store: &mut [u32; store::CELLS],
@@ -24,45 +27,46 @@ fn decide_step(
         (decided (given switch.old store.old opens.old held) p x) }
 {
     match x {
-        Step::Start(b) => decisions::refuse(Refusal::Format),
-        Step::BeginRead(x) => begins::begin(&mut *opens, held, false, x as Object, 0),
-        Step::BeginWrite(x, v) => begins::begin(&mut *opens, held, true, x as Object, v),
+        Step::Start(_) => decisions::refuse(Refusal::Format),
+        Step::BeginRead(x) => begins::begin(opens, held, false, Object::from(x), 0),
+        Step::BeginWrite(x, v) => begins::begin(opens, held, true, Object::from(x), v),
         Step::Deliver(at, choice) => packet_delivery::deliver(
-            &mut *switch,
-            &mut *store,
-            &mut *opens,
+            switch,
+            store,
+            opens,
             held,
             p,
-            at as usize,
+            usize::from(at),
             choice,
         ),
-        Step::Lose(at) => steps::lose(&mut *opens, held, p, at as usize),
-        Step::Repeat(at) => steps::repeat(&mut *opens, held, p, at as usize),
-        Step::Advance(r) => steps::advance(&mut *store, held, r),
-        Step::Replace(number) => steps::replace(&mut *switch, number),
-        Step::Tell(r) => steps::tell(switch, &mut *store, r),
-        Step::Remove(r) => steps::remove(&mut *store, r),
-        Step::GiveUp(o) => steps::give_up(&mut *opens, o),
-        Step::BeginContext(x) => begins::begin_context(&mut *opens, held, x),
-        Step::Join => steps::join(&mut *store),
-        Step::Copy => steps::copy_on(&mut *store),
-        Step::Execute => steps::execute(&mut *store, held),
+        Step::Lose(at) => steps::lose(opens, held, p, usize::from(at)),
+        Step::Repeat(at) => steps::repeat(opens, held, p, usize::from(at)),
+        Step::Advance(r) => steps::advance(store, held, r),
+        Step::Replace(number) => steps::replace(switch, number),
+        Step::Tell(r) => steps::tell(switch, store, r),
+        Step::Remove(r) => steps::remove(store, r),
+        Step::GiveUp(o) => steps::give_up(opens, o),
+        Step::BeginContext(x) => begins::begin_context(opens, held, x),
+        Step::Join => steps::join(store),
+        Step::Copy => steps::copy_on(store),
+        Step::Execute => steps::execute(store, held),
     }
 }
 
 // Whether the step is none.
+#[tactic(auto, unfolding(protocol::specs::Steps::is_malformed))]
 fn is_malformed(x: Step) -> bool
     ensures { result ≡ is_malformed x }
 {
     match x {
-        Step::Start(b) => true,
-        Step::Replace(number) => false,
-        Step::BeginContext(x) => !contexts::is_naming(x),
+        Step::Start(_) => true,
+        Step::BeginContext(objects) => !contexts::is_naming(objects),
         _ => false,
     }
 }
 
 // What is decided of a step where `count` packets wait in so many lent places.
+#[tactic(auto, using(packet_delivery::proofs::Leaves::leaves), unfolding(protocol::specs::Steps::decided_in))]
 pub fn decide(
     switch: &mut [u32; switch::CELLS],
     store: &mut [u32; store::CELLS],
@@ -82,5 +86,5 @@ pub fn decide(
         return decisions::refuse(Refusal::BufferTooShort);
     }
     let held = waiting::held(count);
-    decide_step(&mut *switch, &mut *store, &mut *opens, held, p, x)
+    decide_step(switch, store, opens, held, p, x)
 }

@@ -1,13 +1,13 @@
 -- Document 02, Req 08, 'Runs drawn from a seed': the steps that a seed draws, as bytes, and what the writer of them answers.
-use Rattle.std.specs.Prelude.{◌≡◌, Bool, true, cond, List, [], ◌∷◌, ◌++◌, ℕ, zero, suc, ◌+◌, ◌*◌, ◌/◌, ◌%◌, eqb, leb, ltb, ℤ, pos, neg_ℤ, length, drop}
+use Rattle.std.specs.Prelude.{◌≡◌, Bool, true, cond, List, [], ◌∷◌, ◌++◌, ℕ, zero, suc, ◌+◌, ◌*◌, ◌/◌, ◌%◌, eqb, leb, ltb, ℤ, pos, neg_ℤ, length, drop, Some, None, Result, Ok, Err}
+use Rattle.draws.specs.declared.DrawError.{DrawError}
 use Rattle.protocol.specs.declared.Refusal.TheVariants.{Replicas, BufferTooShort}
 use Rattle.protocol.specs.declared.Setup.TheVariants.{Missing, Chain}
 use Rattle.protocol.specs.declared.Step.{Step}
 use Rattle.protocol.specs.declared.Step.TheVariants.{Start, BeginRead, BeginWrite, Deliver, Lose, Repeat, Advance, Replace, Tell, Remove, GiveUp}
 use Rattle.protocol.specs.Answers.{refusal_number}
 use Rattle.protocol.specs.Starts.{start_refused}
-use Rattle.records.specs.declared.Next.{Next}
-use Rattle.records.specs.Records.{record_of, next_at}
+use Rattle.records.specs.Records.{record_of, read_to, next_at}
 
 -- ---- draws
 
@@ -84,6 +84,16 @@ unfoldable pub draw_answer : ℕ → ℕ → ℕ → ℕ → ℤ
 draw_answer room seed n steps =
     cond (eqb (draw_refusal room seed n steps) 0) (pos (length (bytes_drawn seed n steps))) (neg_ℤ (pos (draw_refusal room seed n steps)))
 
+-- the number of an error, and the number that is returned for a length or an error
+abbrev pub error_number : DrawError → ℕ
+error_number DrawError.Replicas = refusal_number Replicas
+error_number DrawError.Steps = too_many_steps
+error_number DrawError.BufferTooShort = refusal_number BufferTooShort
+
+abbrev pub answer_number : Result ℕ DrawError → ℤ
+answer_number (Ok size) = pos size
+answer_number (Err e) = neg_ℤ (pos (error_number e))
+
 -- 'The bytes go into a lent buffer', and bytes beyond stay as they were
 unfoldable pub draw_buffer : List ℕ → ℕ → ℕ → ℕ → List ℕ
 draw_buffer buf seed n steps =
@@ -93,5 +103,5 @@ draw_buffer buf seed n steps =
 
 -- what a run reads in l from a position on: these steps, one after the other, and then the end
 abbrev pub ReadsAs : List ℕ → ℕ → List Step → Type 0
-ReadsAs l at [] = next_at l at ≡ Next.End
-ReadsAs l at (s ∷ ss) = (next_at l at ≡ Next.Record s (at + length (record_of s))) × ReadsAs l (at + length (record_of s)) ss
+ReadsAs l at [] = next_at l at ≡ Ok None
+ReadsAs l at (s ∷ ss) = (next_at l at ≡ Ok (Some (read_to s (at + length (record_of s))))) × ReadsAs l (at + length (record_of s)) ss

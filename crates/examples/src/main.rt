@@ -2,8 +2,6 @@
 // its bytes, against listing-cuts.lines. Names of examples that differ are printed, and last how many were tried and how many differ.
 #![tactic(auto)]
 
-ghost use Rattle.std.specs.Prelude.{◌≤◌, length};
-
 use std::alloc::{AllocError, Global};
 use std::io;
 use std::rt::Files;
@@ -30,18 +28,11 @@ fn count_differing(
     expected: &mut [u8],
     out: &mut [u8],
 ) -> io::Result<u32> {
-    if agreement::agrees(rt, name, &mut *input, &mut *expected, &mut *out)? {
+    if agreement::agrees(rt, name, input, expected, out)? {
         return Ok(differ);
     }
     say(rt, name)?;
-    Ok(more(differ))
-}
-
-fn more(n: u32) -> u32 {
-    if n == 4294967295 {
-        return n;
-    }
-    n + 1
+    Ok(differ.saturating_add(1))
 }
 
 fn report(rt: &impl Print, tried: u32, differ: u32) -> io::Result<()> {
@@ -56,38 +47,14 @@ fn try_named(
     expected: &mut [u8],
     out: &mut [u8],
 ) -> io::Result<()> {
-    let mut tried = 0;
+    let mut tried: u32 = 0;
     let mut differ = 0;
-    let mut at = 0;
-    while at < index.len() {
-        let end = line_end(index, at);
-        differ = count_differing(
-            rt,
-            &index[at..end],
-            differ,
-            &mut *input,
-            &mut *expected,
-            &mut *out,
-        )?;
-        tried = more(tried);
-        at = agreement::after(index, end, 1);
+    for line in index.split_inclusive(|b| *b == b'\n') {
+        let name = line.strip_suffix(b"\n").unwrap_or(line);
+        differ = count_differing(rt, name, differ, input, expected, out)?;
+        tried = tried.saturating_add(1);
     }
     report(rt, tried, differ)
-}
-
-// Where the line that begins at a place ends.
-fn line_end(s: &[u8], at: usize) -> usize
-    requires { at ≤ length s.now }
-    ensures { (at ≤ result) × (result ≤ length s.now) }
-{
-    let mut i = at;
-    while i < s.len() {
-        if s[i] == b'\n' {
-            return i;
-        }
-        i += 1;
-    }
-    i
 }
 
 fn try_cuts(
@@ -96,9 +63,9 @@ fn try_cuts(
     expected: &mut [u8],
     out: &mut [u8],
 ) -> io::Result<()> {
-    let n = agreement::read_named(rt, b"listing", b".records", &mut *input)?;
-    let m = agreement::read_named(rt, b"listing-cuts", b".lines", &mut *expected)?;
-    if agreement::cuts_agree(&input[..n], &expected[..m], &mut *out) {
+    let n = agreement::read_named(rt, b"listing", b".records", input)?;
+    let m = agreement::read_named(rt, b"listing-cuts", b".lines", expected)?;
+    if agreement::cuts_agree(&input[..n], &expected[..m], out) {
         return rt.println("the listing cut at each byte agrees");
     }
     say(rt, b"the listing cut at each byte")

@@ -11,37 +11,30 @@ use store::{CELLS, JOIN, LAST_NUMBER, LIVE, ORDER, PERMITS, Write};
 pub fn is_joining(cells: &[u32; CELLS]) -> bool
     ensures { result ≡ is_joining cells.now }
 {
-    if REPLICAS <= chain::count(cells) {
-        return false;
-    }
-    cells[JOIN] != 0
+    chain::count(cells) < REPLICAS && cells[JOIN] != 0
 }
 
 // The copies made so far.
 pub fn copies(cells: &[u32; CELLS]) -> u32
     ensures { (result ≡ copies_made cells.now) × (result < 16) }
 {
-    let made = cells[JOIN];
-    if made == 0 {
-        return 0;
-    }
-    (made - 1) % 16
+    cells[JOIN].saturating_sub(1) % COPIES
 }
 
 // The newcomer's table.
+#[tactic(auto, unfolding(crate::specs::newcomer))]
 pub fn newcomer(cells: &[u32; CELLS]) -> Table
     ensures { result ≡ newcomer cells.now }
 {
-    let n = chain::count(cells);
-    (cells[ORDER + n] % 256) as Table
+    chain::table_behind(cells)
 }
 
 // Its number.
+#[tactic(auto, unfolding(crate::specs::newcomer_number))]
 pub fn newcomer_number(cells: &[u32; CELLS]) -> Replica
     ensures { result ≡ newcomer_number cells.now }
 {
-    let n = chain::count(cells);
-    (cells[ORDER + n] / 256 % 256) as Replica
+    chain::number_behind(cells)
 }
 
 fn last_number(cells: &[u32; CELLS]) -> Replica
@@ -56,17 +49,14 @@ fn last_number(cells: &[u32; CELLS]) -> Replica
 pub fn is_full(cells: &[u32; CELLS]) -> bool
     ensures { result ≡ is_full cells.now }
 {
-    if REPLICAS <= chain::count(cells) {
-        return true;
-    }
-    LAST_REPLICA <= last_number(cells)
+    REPLICAS <= chain::count(cells) || LAST_REPLICA <= last_number(cells)
 }
 
 pub fn begin(cells: &mut [u32; CELLS])
     ensures { cells.new ≡ beginning cells.old }
 {
-    let number = last_number(cells) as u32 + 1;
-    let table = newcomer(cells) as u32;
+    let number = u32::from(last_number(cells)) + 1;
+    let table = u32::from(newcomer(cells));
     let n = chain::count(cells);
     cells[ORDER + n] = 256 * number + table;
     cells[LAST_NUMBER] = number;
@@ -79,15 +69,13 @@ pub fn begin(cells: &mut [u32; CELLS])
 fn copy_object(cells: &mut [u32; CELLS], q: Table, t: Table, o: Object)
     ensures { cells.new ≡ copied_object cells.old q t o }
 {
-    let value = store::read_value(cells, t, o);
-    let stamp = store::read_stamp(cells, t, o);
     let w = Write {
         operation: 0,
         object: o,
-        value,
-        stamp,
+        value: store::read_value(cells, t, o),
+        stamp: store::read_stamp(cells, t, o),
     };
-    store::put_write(&mut *cells, q, w);
+    store::put_write(cells, q, w);
 }
 
 // The next objects go from the tail to the newcomer.
@@ -97,10 +85,8 @@ fn copy_objects(cells: &mut [u32; CELLS])
     let q = newcomer(cells);
     let t = chain::tail(cells);
     let first = COPIED * copies(cells);
-    let mut k: u32 = 0;
-    while k < COPIED {
-        copy_object(&mut *cells, q, t, first + k);
-        k += 1;
+    for k in 0..COPIED {
+        copy_object(cells, q, t, first + k);
     }
 }
 
@@ -114,9 +100,8 @@ fn promote(cells: &mut [u32; CELLS])
     let applied = store::applied(cells, t);
     let permitted = store::permitted(cells, t);
     let n = chain::count(cells);
-    store::raise(&mut *cells, q, highest, applied);
-    let i = PERMITS + store::row(q);
-    cells[i] = permitted;
+    store::raise(cells, q, highest, applied);
+    cells[PERMITS + store::row(q)] = permitted;
     cells[LIVE] = n as u32 + 1;
     cells[JOIN] = 0;
 }
@@ -125,12 +110,12 @@ pub fn copy(cells: &mut [u32; CELLS])
     ensures { cells.new ≡ copying cells.old }
 {
     let made = copies(cells);
-    copy_objects(&mut *cells);
+    copy_objects(cells);
     if made + 1 == COPIES {
-        promote(&mut *cells);
-        return;
+        promote(cells);
+    } else {
+        cells[JOIN] = made + 2;
     }
-    cells[JOIN] = made + 2;
 }
 
 // ---- meanwhile
@@ -139,20 +124,14 @@ pub fn copy(cells: &mut [u32; CELLS])
 pub fn is_copied(cells: &[u32; CELLS], o: Object) -> bool
     ensures { result ≡ is_copied cells.now o }
 {
-    if !is_joining(cells) {
-        return false;
-    }
-    o < COPIED * copies(cells)
+    is_joining(cells) && o < COPIED * copies(cells)
 }
 
 // Whether the replica with this number joins.
 pub fn is_newcomer(cells: &[u32; CELLS], r: Replica) -> bool
     ensures { result ≡ is_newcomer cells.now r }
 {
-    if !is_joining(cells) {
-        return false;
-    }
-    newcomer_number(cells) == r
+    is_joining(cells) && newcomer_number(cells) == r
 }
 
 // A write that the tail has applied reaches the newcomer, if it has its copy of the object.
@@ -161,7 +140,7 @@ pub fn hand_on(cells: &mut [u32; CELLS], w: Write)
 {
     if is_copied(cells, w.object) {
         let q = newcomer(cells);
-        store::put_write(&mut *cells, q, w);
+        store::put_write(cells, q, w);
     }
 }
 
@@ -169,13 +148,10 @@ pub fn hand_on(cells: &mut [u32; CELLS], w: Write)
 fn end_without(cells: &mut [u32; CELLS], r: Replica)
     ensures { cells.new ≡ join_ended cells.old r }
 {
-    let n = chain::count(cells);
-    let place = chain::place(cells, r);
-    if n <= place {
-        return;
-    }
-    if place + 1 == n {
-        cells[JOIN] = 0;
+    if let Some(place) = chain::place(cells, r) {
+        if place + 1 == chain::count(cells) {
+            cells[JOIN] = 0;
+        }
     }
 }
 
@@ -183,7 +159,8 @@ fn end_without(cells: &mut [u32; CELLS], r: Replica)
 pub fn remove(cells: &mut [u32; CELLS], r: Replica)
     ensures { cells.new ≡ without cells.old r }
 {
-    let place = chain::place(cells, r);
-    end_without(&mut *cells, r);
-    chain::remove(&mut *cells, place);
+    if let Some(place) = chain::place(cells, r) {
+        end_without(cells, r);
+        chain::remove(cells, place);
+    }
 }

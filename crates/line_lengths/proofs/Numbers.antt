@@ -1,9 +1,11 @@
 -- Laws of `decimal`: the digits spell the number, with no needless 0 before them.
 use mathlib.Core.Path.{◌≡◌, refl, sym, ap, ◌∙◌, subst}
+use mathlib.Core.Logic.{◌≢◌}
+use native.Mathlib.Decide.{ℕ_discrete}
 use mathlib.Core.Bool.{Bool, true, false, cond}
 use mathlib.Core.List.{List, [], ◌∷◌, ◌++◌}
 use Prim.Native.Nat.{ℕ, zero, suc, ◌+◌, ◌-◌, ◌*◌, ◌/◌, ◌%◌, ◌^◌, ◌≤◌, ◌<◌, min, max}
-use native.Mathlib.Nat.{pow-suc}
+use native.Mathlib.Nat.{pow-suc, pow-le-pow_right}
 use native.Mathlib.Omega.{arith}
 use lib.Dec.{ltb}
 use lib.ListN.{length, get_or, length-append, get_or-append}
@@ -42,6 +44,26 @@ places_sized n =
     (λ q. by_test n 10000000 _ _ (λ p. omega arith)
     (λ q. by_test n 100000000 _ _ (λ p. omega arith)
     (λ q. by_test n 1000000000 _ _ (λ p. omega arith) (λ q. omega arith)))))))))
+
+-- a number has one count of digits
+one_size : (m p k : ℕ) → 1 ≤ p → m < 10 ^ p → 10 ^ (p - 1) ≤ m → 10 ^ k ≤ m → m < 10 * 10 ^ k → k + 1 ≡ p
+one_size m p k h below least at_least under =
+    elim (ℕ_discrete (k + 1) p) [
+      | yes e ↦ e
+      | no n ↦ absurd (go (ltb k p) refl n)
+    ]
+  where
+    go : (t : Bool) → ltb k p ≡ t → k + 1 ≢ p → ⊥
+    go true e n =
+        let further : suc k ≤ p - 1 = omega (arith, ltb-true k p e) in
+        omega (arith, pow-le-pow_right {n = 10} (omega arith) further, pow-suc 10 k)
+    go false e n = omega (arith, pow-le-pow_right {n = 10} (omega arith) (ltb-false k p e))
+
+-- as the logarithm has it
+pub places_log : (n k : ℕ) → n < 10000000000 → 10 ^ k ≤ max n 1 → max n 1 < 10 * 10 ^ k → k + 1 ≡ places n
+places_log n k few at_least under =
+    let s : Sized n (places n) = places_sized n in
+    one_size (max n 1) (places n) k s.0 (omega (arith, pow-le-pow_right {n = 10} (omega arith) s.0)) s.3 at_least under
 
 pub digits_length : (k n : ℕ) → length (digits k n) ≡ k
 unfolding digits
@@ -105,21 +127,6 @@ pub long_parts : (n : ℕ) → 10000000000 ≤ n → long_places n ≡ 10 + plac
 unfolding long_places
 long_parts n h = rw (le-ltb n 10000000000 h)
 
-pub places_ten : (n : ℕ) → 1000000000 ≤ n → places n ≡ 10
-unfolding places
-places_ten n h =
-    simp (
-      le-ltb n 10 (omega arith),
-      le-ltb n 100 (omega arith),
-      le-ltb n 1000 (omega arith),
-      le-ltb n 10000 (omega arith),
-      le-ltb n 100000 (omega arith),
-      le-ltb n 1000000 (omega arith),
-      le-ltb n 10000000 (omega arith),
-      le-ltb n 100000000 (omega arith),
-      le-ltb n 1000000000 h,
-    )
-
 pub long_decimal_places : (n : ℕ) → length (long_decimal n) ≡ long_places n
 unfolding long_decimal
 long_decimal_places n = digits_length (long_places n) n
@@ -151,6 +158,11 @@ long_sized n h = go (ltb n 10000000000) refl
     go : (t : Bool) → ltb n 10000000000 ≡ t → LongSized n (long_places n)
     go true e = let below = ltb-true n 10000000000 e in subst (LongSized n) (sym (long_short n below)) (short below)
     go false e = let above = ltb-false n 10000000000 e in subst (LongSized n) (sym (long_parts n above)) (long above)
+
+pub long_places_log : (n k : ℕ) → n < 100000000000000000000 → 10 ^ k ≤ max n 1 → max n 1 < 10 * 10 ^ k → k + 1 ≡ long_places n
+long_places_log n k few at_least under =
+    let s : LongSized n (long_places n) = long_sized n few in
+    one_size (max n 1) (long_places n) k s.0 (omega (arith, pow-le-pow_right {n = 10} (omega arith) s.0)) s.3 at_least under
 
 pub long_length : (n : ℕ) → length (long_decimal n) ≤ 20
 long_length n = go (ltb n 10000000000) refl

@@ -10,50 +10,18 @@ use protocol::answers::{NEW, OLD};
 use protocol::{Answer, answers};
 
 // How many decimal digits a number of 32 bits has.
+// By hand: this and the next are two, since the logarithm is a method of each width, and of no trait that one generic function could name.
 pub fn digits_of(n: u32) -> usize
     ensures { (result ≡ places n) × (result ≤ 10) }
 {
-    if n < 10 {
-        return 1;
-    }
-    if n < 100 {
-        return 2;
-    }
-    if n < 1000 {
-        return 3;
-    }
-    if n < 10000 {
-        return 4;
-    }
-    if n < 100000 {
-        return 5;
-    }
-    if n < 1000000 {
-        return 6;
-    }
-    if n < 10000000 {
-        return 7;
-    }
-    if n < 100000000 {
-        return 8;
-    }
-    if n < 1000000000 {
-        return 9;
-    }
-    10
+    n.max(1).ilog10() as usize + 1
 }
 
 // Req 07: how many the number of a record has.
-pub fn long_digits_of(n: RecordNumber) -> usize
-    ensures { (result ≡ long_places n) × (result ≤ 20) }
+pub fn long_digits_of(number: RecordNumber) -> usize
+    ensures { (result ≡ long_places number) × (result ≤ 20) }
 {
-    if n < 4294967296 {
-        return digits_of(n as u32);
-    }
-    if n < 10000000000 {
-        return 10;
-    }
-    10 + digits_of((n / 10000000000) as u32)
+    number.max(1).ilog10() as usize + 1
 }
 
 pub fn ok_length(number: RecordNumber, waiting: u32, marks: u32) -> usize
@@ -68,17 +36,16 @@ pub fn no_length(number: RecordNumber, refusal: u8) -> usize
     long_digits_of(number) + digits_of(refusal as u32) + 5
 }
 
+// By hand: a freshness is a number, as protocol::answers says.
 pub fn finish_length(operation: u32, value: u32, freshness: Freshness) -> usize
     ensures { (result ≡ length (finish_end operation value freshness)) × (result ≤ 26) }
 {
     let digits = digits_of(operation) + digits_of(value);
-    if freshness == OLD {
-        return digits + 6;
+    if freshness == OLD || freshness == NEW {
+        digits + 6
+    } else {
+        digits + 4
     }
-    if freshness == NEW {
-        return digits + 6;
-    }
-    digits + 4
 }
 
 // The first value, and each later one behind a comma.
@@ -87,10 +54,8 @@ pub fn joined_length(v: Context) -> usize
 {
     let n = contexts::size(v);
     let mut digits = digits_of(v.first);
-    let mut i: usize = 1;
-    while i < n {
+    for i in 1..n {
         digits += digits_of(contexts::place(v, i)) + 1;
-        i += 1;
     }
     digits
 }

@@ -48,36 +48,6 @@ module _ (b : List ℕ) (at : ℕ) (w : List ℕ) (h : at + length w ≤ length 
       ap (λ (k : ℕ). drop k b) ends in
       (λ j. take_pasted j ++ v ++ rest j) ∙ ap (λ (l : List ℕ). l ++ drop (at + length (w ++ v)) b) (append_assoc (take at b) w v)
 
--- bytes stored one after the other
-pub pasted_sets : (b : List ℕ) (at : ℕ) (w : List ℕ) → at + length w ≤ length b → sets b at w ≡ pasted b at w
-pasted_sets b at w h = sets-eq w b at h
-
-pub put_byte : (b : List ℕ) (at a : ℕ) → at + 1 ≤ length b → Puts b at (a ∷ []) (at + 1) (set b at a)
-put_byte b at a h = record { room = h; after = refl; there = pasted_sets b at (a ∷ []) h; long = length-set b at a }
-
-pub put_two : (b : List ℕ) (at a c : ℕ) → at + 2 ≤ length b → Puts b at (a ∷ c ∷ []) (at + 2) (set (set b at a) (at + 1) c)
-put_two b at a c h =
-    let one : at + 1 ≡ suc at = omega arith in
-    record {
-      room = h;
-      after = refl;
-      there = (λ j. set (set b at a) (one j) c) ∙ pasted_sets b at (a ∷ c ∷ []) h;
-      long = simp length-set;
-    }
-
-pub put_four : (b : List ℕ) (at a c d e : ℕ) → at + 4 ≤ length b →
-    Puts b at (a ∷ c ∷ d ∷ e ∷ []) (at + 4) (set (set (set (set b at a) (at + 1) c) (at + 2) d) (at + 3) e)
-put_four b at a c d e h =
-    let one : at + 1 ≡ suc at = omega arith in
-    let two : at + 2 ≡ suc (suc at) = omega arith in
-    let three : at + 3 ≡ suc (suc (suc at)) = omega arith in
-    record {
-      room = h;
-      after = refl;
-      there = (λ j. set (set (set (set b at a) (one j) c) (two j) d) (three j) e) ∙ pasted_sets b at (a ∷ c ∷ d ∷ e ∷ []) h;
-      long = simp length-set;
-    }
-
 -- what two functions put, the second after the first
 pub puts_then : {b b' b'' : List ℕ} {at p r : ℕ} {w v : List ℕ} → Puts b at w p b' → Puts b' p v r b'' → Puts b at (w ++ v) r b''
 puts_then {b} {b'} {b''} {at} {p} {r} {w} {v} f g = record {
@@ -120,17 +90,6 @@ has_room_lem at n long t r e f few = omega (arith, leb-true (at + n) long (sym e
 
 pub no_room : (at n long : ℕ) (t : List ℕ) (r : Bool) → r ≡ leb (at + n) long → r ≡ false → n ≡ length t → long < at + length t
 no_room at n long t r e f same = omega (arith, leb-false (at + n) long (sym e ∙ f), same)
-
--- the test itself, as the code makes it
-pub leb_less : (at n long : ℕ) → long < at → leb (at + n) long ≡ false
-leb_less at n long h = lt-leb (at + n) long (omega arith)
-
-pub leb_more : (at n long : ℕ) → at ≤ long → leb n (long - at) ≡ leb (at + n) long
-leb_more at n long h = go (leb n (long - at)) refl
-  where
-    go : (t : Bool) → leb n (long - at) ≡ t → leb n (long - at) ≡ leb (at + n) long
-    go true e = e ∙ sym (le-leb (at + n) long (omega (arith, leb-true n (long - at) e)))
-    go false e = e ∙ sym (lt-leb (at + n) long (omega (arith, leb-false n (long - at) e)))
 
 module _ (b : List ℕ) (at : ℕ) (t : List ℕ) where
   pub put_short : length b < at + length t → put_in b at t ≡ b

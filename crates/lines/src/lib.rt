@@ -15,6 +15,7 @@ use protocol::{Answer, answers};
 pub const LONGEST: usize = 147;
 
 // ---- parts of a line, at a place that has room for them; each function gives the place after what it puts
+// By hand: the text goes into lent memory at a place, and the place is handed on, since the libraries have no heap; what is promised (`Puts`) speaks of the buffer and the place.
 
 fn put_byte(out: &mut [u8], at: usize, a: u8) -> usize
     requires { at + 1 ≤ length out.old }
@@ -24,24 +25,13 @@ fn put_byte(out: &mut [u8], at: usize, a: u8) -> usize
     at + 1
 }
 
-fn put_two(out: &mut [u8], at: usize, a: u8, b: u8) -> usize
-    requires { at + 2 ≤ length out.old }
-    ensures { Puts out.old at (a ∷ b ∷ []) result out.new }
+fn put_bytes(out: &mut [u8], at: usize, text: &[u8]) -> usize
+    requires { at + length text.now ≤ length out.old }
+    ensures { Puts out.old at text.now result out.new }
 {
-    out[at] = a;
-    out[at + 1] = b;
-    at + 2
-}
-
-fn put_four(out: &mut [u8], at: usize, a: u8, b: u8, c: u8, d: u8) -> usize
-    requires { at + 4 ≤ length out.old }
-    ensures { Puts out.old at (a ∷ b ∷ c ∷ d ∷ []) result out.new }
-{
-    out[at] = a;
-    out[at + 1] = b;
-    out[at + 2] = c;
-    out[at + 3] = d;
-    at + 4
+    let end = at + text.len();
+    out[at..end].copy_from_slice(text);
+    end
 }
 
 // The last k digits of a number, filled in from the last to the first.
@@ -50,11 +40,9 @@ fn put_digits(out: &mut [u8], at: usize, n: u64, k: usize) -> usize
     ensures { Puts out.old at (digits k n) result out.new }
 {
     let mut rest = n;
-    let mut left = k;
-    while 0 < left {
-        left -= 1;
-        out[at + left] = 48 + (rest % 10) as u8;
-        rest = rest / 10;
+    for place in (0..k).rev() {
+        out[at + place] = b'0' + (rest % 10) as u8;
+        rest /= 10;
     }
     at + k
 }
@@ -65,9 +53,9 @@ fn put_number(out: &mut [u8], at: usize, n: u32) -> usize
     ensures { Puts out.old at (decimal n) result out.new }
 {
     if n < 10 {
-        return put_byte(&mut *out, at, 48 + n as u8);
+        return put_byte(out, at, b'0' + n as u8);
     }
-    put_digits(&mut *out, at, n as u64, line_lengths::digits_of(n))
+    put_digits(out, at, u64::from(n), line_lengths::digits_of(n))
 }
 
 // Req 07: the number of a record.
@@ -75,7 +63,7 @@ fn put_record_number(out: &mut [u8], at: usize, n: RecordNumber) -> usize
     requires { at + length (long_decimal n) ≤ length out.old }
     ensures { Puts out.old at (long_decimal n) result out.new }
 {
-    put_digits(&mut *out, at, n, line_lengths::long_digits_of(n))
+    put_digits(out, at, n, line_lengths::long_digits_of(n))
 }
 
 // A line up to the operation just finished: record number, `ok`, packets waiting and counting marks.
@@ -83,12 +71,12 @@ fn put_ok(out: &mut [u8], at: usize, number: RecordNumber, waiting: u32, marks: 
     requires { at + length (ok_start number waiting marks) ≤ length out.old }
     ensures { Puts out.old at (ok_start number waiting marks) result out.new }
 {
-    let at = put_record_number(&mut *out, at, number);
-    let at = put_four(&mut *out, at, 32, 111, 107, 32);
-    let at = put_number(&mut *out, at, waiting);
-    let at = put_byte(&mut *out, at, 32);
-    let at = put_number(&mut *out, at, marks);
-    put_byte(&mut *out, at, 32)
+    let at = put_record_number(out, at, number);
+    let at = put_bytes(out, at, b" ok ");
+    let at = put_number(out, at, waiting);
+    let at = put_byte(out, at, b' ');
+    let at = put_number(out, at, marks);
+    put_byte(out, at, b' ')
 }
 
 // The line of a refused record: its number, `no` and the refusal.
@@ -96,24 +84,23 @@ fn put_no(out: &mut [u8], at: usize, number: RecordNumber, refusal: u8) -> usize
     requires { at + length (no_line number refusal) ≤ length out.old }
     ensures { Puts out.old at (no_line number refusal) result out.new }
 {
-    let at = put_record_number(&mut *out, at, number);
-    let at = put_four(&mut *out, at, 32, 110, 111, 32);
-    let at = put_number(&mut *out, at, refusal as u32);
-    put_byte(&mut *out, at, 10)
+    let at = put_record_number(out, at, number);
+    let at = put_bytes(out, at, b" no ");
+    let at = put_number(out, at, u32::from(refusal));
+    put_byte(out, at, b'\n')
 }
 
 // What a read says of a pending write, and the line's end.
+// By hand: a freshness is a number, as protocol::answers says.
 fn put_freshness(out: &mut [u8], at: usize, freshness: Freshness) -> usize
     requires { at + length (freshness_end freshness) ≤ length out.old }
     ensures { Puts out.old at (freshness_end freshness) result out.new }
 {
-    if freshness == OLD {
-        return put_four(&mut *out, at, 111, 108, 100, 10);
+    match freshness {
+        OLD => put_bytes(out, at, b"old\n"),
+        NEW => put_bytes(out, at, b"new\n"),
+        _ => put_bytes(out, at, b"-\n"),
     }
-    if freshness == NEW {
-        return put_four(&mut *out, at, 110, 101, 119, 10);
-    }
-    put_two(&mut *out, at, 45, 10)
 }
 
 // The operation just finished, its value, and the line's end.
@@ -121,11 +108,11 @@ fn put_finish(out: &mut [u8], at: usize, operation: u32, value: u32, freshness: 
     requires { at + length (finish_end operation value freshness) ≤ length out.old }
     ensures { Puts out.old at (finish_end operation value freshness) result out.new }
 {
-    let at = put_number(&mut *out, at, operation);
-    let at = put_byte(&mut *out, at, 32);
-    let at = put_number(&mut *out, at, value);
-    let at = put_byte(&mut *out, at, 32);
-    put_freshness(&mut *out, at, freshness)
+    let at = put_number(out, at, operation);
+    let at = put_byte(out, at, b' ');
+    let at = put_number(out, at, value);
+    let at = put_byte(out, at, b' ');
+    put_freshness(out, at, freshness)
 }
 
 // The values of a read of a whole context: the first, and each later one behind a comma.
@@ -134,12 +121,10 @@ fn put_joined(out: &mut [u8], at: usize, v: Context) -> usize
     ensures { Puts out.old at (joined v) result out.new }
 {
     let n = contexts::size(v);
-    let mut end = put_number(&mut *out, at, v.first);
-    let mut i: usize = 1;
-    while i < n {
-        end = put_byte(&mut *out, end, 44);
-        end = put_number(&mut *out, end, contexts::place(v, i));
-        i += 1;
+    let mut end = put_number(out, at, v.first);
+    for i in 1..n {
+        end = put_byte(out, end, b',');
+        end = put_number(out, end, contexts::place(v, i));
     }
     end
 }
@@ -149,11 +134,11 @@ fn put_context(out: &mut [u8], at: usize, read: u32, v: Context) -> usize
     requires { at + length (context_end read v) ≤ length out.old }
     ensures { Puts out.old at (context_end read v) result out.new }
 {
-    let at = put_number(&mut *out, at, read);
-    let at = put_byte(&mut *out, at, 32);
-    let at = put_joined(&mut *out, at, v);
-    let at = put_byte(&mut *out, at, 32);
-    put_freshness(&mut *out, at, NONE)
+    let at = put_number(out, at, read);
+    let at = put_byte(out, at, b' ');
+    let at = put_joined(out, at, v);
+    let at = put_byte(out, at, b' ');
+    put_freshness(out, at, NONE)
 }
 
 // ---- whole lines
@@ -162,9 +147,9 @@ fn put_done(out: &mut [u8], at: usize, number: RecordNumber, waiting: u32, marks
     requires { at + length (line_of number Done waiting marks) ≤ length out.old }
     ensures { Puts out.old at (line_of number Done waiting marks) result out.new }
 {
-    let at = put_ok(&mut *out, at, number, waiting, marks);
-    let at = put_four(&mut *out, at, 45, 32, 45, 32);
-    put_freshness(&mut *out, at, NONE)
+    let at = put_ok(out, at, number, waiting, marks);
+    let at = put_bytes(out, at, b"- - ");
+    put_freshness(out, at, NONE)
 }
 
 fn put_finished(
@@ -180,8 +165,8 @@ fn put_finished(
     requires { at + length (line_of number (Finished operation value freshness) waiting marks) ≤ length out.old }
     ensures { Puts out.old at (line_of number (Finished operation value freshness) waiting marks) result out.new }
 {
-    let at = put_ok(&mut *out, at, number, waiting, marks);
-    put_finish(&mut *out, at, operation, value, freshness)
+    let at = put_ok(out, at, number, waiting, marks);
+    put_finish(out, at, operation, value, freshness)
 }
 
 fn put_finished_context(
@@ -196,8 +181,8 @@ fn put_finished_context(
     requires { at + length (line_of number (FinishedContext read v) waiting marks) ≤ length out.old }
     ensures { Puts out.old at (line_of number (FinishedContext read v) waiting marks) result out.new }
 {
-    let at = put_ok(&mut *out, at, number, waiting, marks);
-    put_context(&mut *out, at, read, v)
+    let at = put_ok(out, at, number, waiting, marks);
+    put_context(out, at, read, v)
 }
 
 // The line of a record, from its answer and from what the machine then holds.
@@ -213,14 +198,14 @@ fn put_line(
     ensures { Puts out.old at (line_of number answer waiting marks) result out.new }
 {
     match answer {
-        Answer::Done => put_done(&mut *out, at, number, waiting, marks),
+        Answer::Done => put_done(out, at, number, waiting, marks),
         Answer::Finished(operation, value, freshness) => put_finished(
-            &mut *out, at, number, operation, value, freshness, waiting, marks,
+            out, at, number, operation, value, freshness, waiting, marks,
         ),
         Answer::FinishedContext(read, v) => {
-            put_finished_context(&mut *out, at, number, read, v, waiting, marks)
+            put_finished_context(out, at, number, read, v, waiting, marks)
         }
-        Answer::Refused(refusal) => put_no(&mut *out, at, number, answers::refusal_number(refusal)),
+        Answer::Refused(refusal) => put_no(out, at, number, answers::refusal_number(refusal)),
     }
 }
 
@@ -228,10 +213,7 @@ fn put_line(
 pub fn fits(length: usize, at: usize, n: usize) -> bool
     ensures { result ≡ leb (at + n) length }
 {
-    if length < at {
-        return false;
-    }
-    n <= length - at
+    length.checked_sub(at).is_some_and(|room| n <= room)
 }
 
 // The line of a record at a place; the buffer is unchanged where it is too short. How many bytes the line has.
@@ -247,11 +229,11 @@ pub fn put_answer(
         × (out.new ≡ put_in out.old at (line_of number answer waiting marks)) }
 {
     if fits(out.len(), at, LONGEST) {
-        return put_line(&mut *out, at, number, answer, waiting, marks) - at;
+        return put_line(out, at, number, answer, waiting, marks) - at;
     }
     let n = line_lengths::line_length(number, answer, waiting, marks);
     if fits(out.len(), at, n) {
-        put_line(&mut *out, at, number, answer, waiting, marks);
+        put_line(out, at, number, answer, waiting, marks);
     }
     n
 }
@@ -262,7 +244,7 @@ pub fn put_refusal(out: &mut [u8], at: usize, number: RecordNumber, refusal: u8)
 {
     let n = line_lengths::no_length(number, refusal);
     if fits(out.len(), at, n) {
-        put_no(&mut *out, at, number, refusal);
+        put_no(out, at, number, refusal);
     }
     n
 }

@@ -1,6 +1,6 @@
+pub mod All
 pub mod AllOf
 pub mod Closing
 pub mod Index
-pub mod Passing
 pub mod Places
 pub mod Tests

@@ -3,36 +3,27 @@
 #![tactic(auto)]
 
 ghost use Rattle.std.specs.Prelude.{◌≡◌};
-ghost use Rattle.protocol.specs.Decisions.{given};
 ghost use Rattle.protocol.specs.Starts.{start_answer};
-ghost use Rattle.protocol.specs.Steps.{machine, new_store, start_switch, start_store, start_opens, position_of, decided_in, stepped_by, after};
-ghost use Rattle.machine.specs.{decided_with};
-ghost use Rattle.waiting.specs.Waiting.{waiting_list, held_in};
+ghost use Rattle.protocol.specs.Steps.{machine, new_store, start_switch, start_store, start_opens, position_of, stepped_by, after};
+ghost use Rattle.waiting.specs.Waiting.{waiting_list};
 
 use protocol::{Answer, Setup, Step, Stepped, setups};
 use switch::Switch;
-use waiting::{Edit, Packet};
-
-// What is decided of a step, and the stored number of counting marks then.
-#[derive(Clone, Copy)]
-struct Decided {
-    answer: Answer,
-    edit: Edit,
-    marks: u32,
-}
+use waiting::Packet;
 
 // The replicas of a start: nothing written.
 fn clear_store(store: &mut [u32; store::CELLS], b: Setup)
     ensures { store.new ≡ new_store b }
 {
     match b {
-        Setup::Missing => chain::clear(&mut *store, 0),
-        Setup::Chain(n) => chain::clear(&mut *store, n),
-        Setup::Quorum(n) => quorum::clear(&mut *store, n),
+        Setup::Missing => chain::clear(store, 0),
+        Setup::Chain(n) => chain::clear(store, n),
+        Setup::Quorum(n) => quorum::clear(store, n),
     }
 }
 
 // A start: nothing written, no operation open, and none of the caller's packets waits. After a refusal all that is lent holds what it held.
+#[tactic(auto, unfolding(protocol::specs::Steps::start_switch, protocol::specs::Steps::start_store, protocol::specs::Steps::start_opens))]
 pub fn start(
     b: Setup,
     switch: &mut [u32; switch::CELLS],
@@ -47,62 +38,24 @@ pub fn start(
     if setups::is_refused(b) {
         return setups::answer(b);
     }
-    switch::cells::store(&mut *switch, Switch::new(1));
-    clear_store(&mut *store, b);
-    operations::clear(&mut *opens);
+    switch::cells::store(switch, Switch::new(1));
+    clear_store(store, b);
+    operations::clear(opens);
     setups::answer(b)
 }
 
+#[tactic(auto, unfolding(protocol::specs::Steps::position_of))]
 fn position(x: Step) -> usize
     ensures { result ≡ position_of x }
 {
     match x {
-        Step::Deliver(at, choice) => at as usize,
-        Step::Lose(at) => at as usize,
-        Step::Repeat(at) => at as usize,
+        Step::Deliver(at, _) | Step::Lose(at) | Step::Repeat(at) => usize::from(at),
         _ => 0,
     }
 }
 
-// What is decided of a step where `count` packets wait in so many lent places, with the stored number of counting marks then.
-fn decide_marks(
-    switch: &mut [u32; switch::CELLS],
-    store: &mut [u32; store::CELLS],
-    opens: &mut [u32; operations::CELLS],
-    places: usize,
-    count: usize,
-    p: Packet,
-    x: Step,
-) -> Decided
-    ensures { (result ≡ decided_with (decided_in places (given switch.old store.old opens.old (held_in count)) p x))
-        × (switch.new ≡ (decided_in places (given switch.old store.old opens.old (held_in count)) p x).switch)
-        × (store.new ≡ (decided_in places (given switch.old store.old opens.old (held_in count)) p x).store)
-        × (opens.new ≡ (decided_in places (given switch.old store.old opens.old (held_in count)) p x).opens) }
-{
-    let d = dispatch::decide(&mut *switch, &mut *store, &mut *opens, places, count, p, x);
-    let marks = switch::cells::marks(switch);
-    let answer = d.answer;
-    let edit = d.edit;
-    Decided {
-        answer,
-        edit,
-        marks,
-    }
-}
-
-// What a step hands back, from what was decided and the count after the edit.
-fn result(d: Decided, count: usize) -> Stepped
-    ensures { result ≡ record { answer = d.answer; count = count; marks = d.marks } }
-{
-    let answer = d.answer;
-    Stepped {
-        answer,
-        count,
-        marks: d.marks,
-    }
-}
-
 // One step of the machine: look at the packet, decide, edit the list.
+// By hand: what is lent comes one by one, here and in `start`, and the packets with their count: C lends each by a pointer, and the README names the functions so.
 pub fn step(
     switch: &mut [u32; switch::CELLS],
     store: &mut [u32; store::CELLS],
@@ -118,7 +71,11 @@ pub fn step(
         × (packets.new ≡ (after (machine switch.old store.old opens.old (waiting_list packets.old count)) x).waiting.packets) }
 {
     let p = waiting::look(packets, position(x));
-    let d = decide_marks(switch, store, opens, packets.len(), count, p, x);
-    let n = waiting::change(packets, count, d.edit);
-    result(d, n)
+    let decision = dispatch::decide(switch, store, opens, packets.len(), count, p, x);
+    let marks = switch::cells::marks(switch);
+    Stepped {
+        answer: decision.answer,
+        count: waiting::change(packets, count, decision.edit),
+        marks,
+    }
 }

@@ -11,10 +11,12 @@ use lib.Dec.{eqb, leb, ltb}
 use lib.ListN.{length, get_or, set, take, drop, replicate, get_or-replicate}
 use lib.Seq.{take-add, take_all, get_or-set_other}
 use borrow.Author.Tests.{eqb-true, eqb-false, eq-eqb, ne_eqb, leb-true}
+use Rattle.std.specs.Prelude.{Option, Some, None, Result, Ok, Err}
 use Rattle.limits.specs as limits
 use Rattle.lists.proofs.Tests.{both}
 use Rattle.protocol.specs.Starts.{setup_of, start_refused}
-use Rattle.records.specs.declared.Next.{Next}
+use Rattle.records.specs.declared.Malformed.{Malformed}
+use Rattle.records.specs.declared.Record.{Record}
 use Rattle.records.specs.Records.{next_at}
 use Rattle.shortening.specs.Shortening.{size_at, place_of, is_record, records_from, met_from, met_first, met, records_in, refusal_of, kept_to, is_same, drops, tried, passed, dropped, rounds, most_records, flags_of, shortened}
 use Rattle.shortening.specs.Promises.{Within, Sound}
@@ -54,14 +56,14 @@ sound_from (suc f) l at count e fuel p big inside w some = end (leb (length l) a
     end false b q later = next (is_record (next_at l at)) refl q later
 
 -- a start that is read
-first_met : (l : List ℕ) (f : Next) → met_first l f ≡ 0 → (is_record f ≡ true) × (met_from (length l) l (size_at l 0) ≡ 0)
-first_met l (Next.Record x n) e = go (start_refused (setup_of x)) e
+first_met : (l : List ℕ) (f : Result (Option Record) Malformed) → met_first l f ≡ 0 → (is_record f ≡ true) × (met_from (length l) l (size_at l 0) ≡ 0)
+first_met l (Ok (Some r)) e = go (start_refused (setup_of r.step)) e
   where
     go : (t : Bool) → cond t 2 (met_from (length l) l (size_at l 0)) ≡ 0 → (true ≡ true) × (met_from (length l) l (size_at l 0) ≡ 0)
     go true q = absurd (omega (arith, q))
     go false q = (refl, q)
-first_met l Next.End e = absurd (omega (arith, e))
-first_met l Next.Malformed e = absurd (omega (arith, e))
+first_met l (Ok None) e = absurd (omega (arith, e))
+first_met l (Err x) e = absurd (omega (arith, e))
 
 pub sound_input : (l : List ℕ) → met l ≡ 0 → Sound (records_in l) l
 unfolding met records_in

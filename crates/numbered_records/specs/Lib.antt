@@ -1,5 +1,5 @@
 -- Records from numbers: what the exported writers take and give.
-use Rattle.std.specs.Prelude.{Bool, false, cond, not, List, ℕ, ◌+◌, ◌%◌, eqb, leb, length, get_or}
+use Rattle.std.specs.Prelude.{Bool, false, cond, not, List, ℕ, ◌+◌, ◌%◌, eqb, leb, length, get_or, Result, Err}
 use Rattle.limits.specs as limits
 use Rattle.contexts.specs.declared.Objects.{Objects}
 use Rattle.protocol.specs.declared.Refusal.TheVariants.{Format}
@@ -7,6 +7,8 @@ use Rattle.protocol.specs.declared.Setup.TheVariants.{Missing, Chain, Quorum}
 use Rattle.protocol.specs.declared.Step.{Step}
 use Rattle.protocol.specs.declared.Step.TheVariants.{Start, BeginRead, BeginWrite, Deliver, Lose, Repeat, Advance, Replace, Tell, Remove, GiveUp, BeginContext, Join, Copy, Execute}
 use Rattle.protocol.specs.Answers.{refusal_number}
+use Rattle.records.specs.declared.WriteError.{WriteError}
+use Rattle.records.specs.declared.WriteError.TheVariants.{NoRecord}
 use Rattle.records.specs.Records.{kind_of_tag, context_kind, no_step, content_length, written_at, buffer_after, written_refusal}
 
 -- the largest first and second number of each kind of step: what its fields hold
@@ -47,6 +49,10 @@ step_from k a b =
     (cond (eqb k 12) Join
     (cond (eqb k 13) Copy (cond (eqb k 14) Execute (cond (eqb k 15) (Start (Quorum (a % 256))) (Start Missing)))))))))))))))
 
+-- what the writer of a record answers: how many bytes it has, or why it is not written
+unfoldable pub record_written : List ℕ → ℕ → ℕ → ℕ → Result ℕ WriteError
+record_written buf tag a b = cond (is_record tag a b) (written_at buf 0 (step_from (kind_of_tag tag) a b)) (Err NoRecord)
+
 -- refusal 1 where there is no such record, 15 where the buffer is too short, 0 where it is written
 unfoldable pub record_refusal : List ℕ → ℕ → ℕ → ℕ → ℕ
 record_refusal buf tag a b = cond (is_record tag a b) (written_refusal (written_at buf 0 (step_from (kind_of_tag tag) a b))) (refusal_number Format)
@@ -71,6 +77,10 @@ objects_from xs = record {
   seventh = get_or xs 6 0;
   eighth = get_or xs 7 0;
 }
+
+-- what the writer of a read of a whole context answers
+unfoldable pub context_written : List ℕ → List ℕ → Result ℕ WriteError
+context_written buf xs = cond (leb (length xs) limits.context_most) (written_at buf 0 (BeginContext (objects_from xs))) (Err NoRecord)
 
 -- Req 02: 'another number of objects .. is refusal 1, before .. 15'
 unfoldable pub context_refusal : List ℕ → List ℕ → ℕ

@@ -2,27 +2,22 @@
 #![tactic(auto)]
 
 ghost use Rattle.std.specs.Prelude.{◌≡◌, ◌≤◌, length, get_or};
-ghost use Rattle.records.specs.Records.{written_at, buffer_after, written_refusal};
-ghost use Rattle.numbered_records.specs.{largest_first, largest_second, has_numbers, is_record, step_from, record_refusal, record_buffer, record_size, objects_from, context_refusal, context_buffer};
+ghost use Rattle.records.specs.Records.{written_refusal};
+ghost use Rattle.numbered_records.specs.{largest_first, largest_second, has_numbers, is_record, step_from, record_written, record_buffer, record_size, objects_from, context_written, context_buffer};
 
 use contexts::Objects;
 use limits::LAST_OPERATION;
 use protocol::{Refusal, Setup, Step, answers};
-use records::{CONTEXT_KIND, NO_STEP, Written};
+use records::{CONTEXT_KIND, NO_STEP, WriteError};
 
+// By hand: kinds are numbers, here and below, as crates/records says.
 fn largest_first(kind: usize) -> u32
     ensures { result ≡ largest_first kind }
 {
     match kind {
-        0 => 255,
-        6 => 255,
-        8 => 255,
-        9 => 255,
+        0 | 6 | 8 | 9 | 15 => 255,
         10 => LAST_OPERATION,
-        12 => 0,
-        13 => 0,
-        14 => 0,
-        15 => 255,
+        12..=14 => 0,
         _ => 65535,
     }
 }
@@ -41,25 +36,17 @@ fn largest_second(kind: usize) -> u32
 fn has_numbers(kind: usize) -> bool
     ensures { result ≡ has_numbers kind }
 {
-    if kind == CONTEXT_KIND {
-        return false;
-    }
-    kind != NO_STEP
+    kind != CONTEXT_KIND && kind != NO_STEP
 }
 
 fn is_record(tag: u8, first: u32, second: u32) -> bool
     ensures { result ≡ is_record tag first second }
 {
     let kind = records::kind_of_tag(tag);
-    if !has_numbers(kind) {
-        return false;
-    }
-    if first <= largest_first(kind) {
-        return second <= largest_second(kind);
-    }
-    false
+    has_numbers(kind) && first <= largest_first(kind) && second <= largest_second(kind)
 }
 
+// By hand: each number is taken modulo its field's width, as `step_from` in specs/Lib.antt has it for every number; `is_record` has asked before whether it fits.
 fn step_from(kind: usize, first: u32, second: u32) -> Step
     ensures { result ≡ step_from kind first second }
 {
@@ -83,33 +70,22 @@ fn step_from(kind: usize, first: u32, second: u32) -> Step
     }
 }
 
-// Writes the record of a step at the start of the buffer. 0, or the refusal.
-fn write_step(out: &mut [u8], step: Step) -> u8
-    ensures { (result ≡ written_refusal (written_at out.old 0 step)) × (out.new ≡ buffer_after out.old 0 step) }
-{
-    match records::write_at(&mut *out, 0, step) {
-        Written::Bytes(n) => 0,
-        Written::TooShort => answers::refusal_number(Refusal::BufferTooShort),
-        Written::Malformed => answers::refusal_number(Refusal::Format),
-    }
-}
-
-// Writes a record at the start of the buffer: its tag, and its numbers in the order of the record, 0 for one that it does not have. 0, or refusal 1 where there is
-// no such record, or 15 where the buffer is too short; a refusal leaves the buffer as it was.
-pub fn write_record(tag: u8, first: u32, second: u32, out: &mut [u8]) -> u8
-    ensures { (result ≡ record_refusal out.old tag first second) × (out.new ≡ record_buffer out.old tag first second) }
+// Writes a record at the start of the buffer: its tag, and its numbers in the order of the record, 0 for one that it does not have. How many bytes it has, or why it is not
+// written, which leaves the buffer as it was.
+pub fn write_record(tag: u8, first: u32, second: u32, out: &mut [u8]) -> Result<usize, WriteError>
+    ensures { (result ≡ record_written out.old tag first second) × (out.new ≡ record_buffer out.old tag first second) }
 {
     if !is_record(tag, first, second) {
-        return answers::refusal_number(Refusal::Format);
+        return Err(WriteError::NoRecord);
     }
     let step = step_from(records::kind_of_tag(tag), first, second);
-    write_step(&mut *out, step)
+    records::write_at(out, 0, step)
 }
 
 fn object_at(objects: &[u16], i: usize) -> u16
     ensures { result ≡ get_or objects.now i 0 }
 {
-    if i < objects.len() { objects[i] } else { 0 }
+    objects.get(i).copied().unwrap_or(0)
 }
 
 fn objects_from(objects: &[u16]) -> Objects
@@ -129,24 +105,37 @@ fn objects_from(objects: &[u16]) -> Objects
     }
 }
 
-// Writes the record of a read of a whole context at the start of the buffer. 0, or refusal 1 where there are not 2 to 8 objects, or 15 where the buffer is too short; a
-// refusal leaves the buffer as it was.
-pub fn write_context(objects: &[u16], out: &mut [u8]) -> u8
-    ensures { (result ≡ context_refusal out.old objects.now) × (out.new ≡ context_buffer out.old objects.now) }
+// Writes the record of a read of a whole context at the start of the buffer. How many bytes it has, or why it is not written, which leaves the buffer as it was: it has no
+// record where there are not 2 to 8 objects.
+pub fn write_context(objects: &[u16], out: &mut [u8]) -> Result<usize, WriteError>
+    ensures { (result ≡ context_written out.old objects.now) × (out.new ≡ context_buffer out.old objects.now) }
 {
     if 8 < objects.len() {
-        return answers::refusal_number(Refusal::Format);
+        return Err(WriteError::NoRecord);
     }
-    write_step(&mut *out, Step::BeginContext(objects_from(objects)))
+    records::write_at(out, 0, Step::BeginContext(objects_from(objects)))
 }
 
+// What a writer answered, in a number: 0, or refusal 1 where there is no such record, or 15 where the buffer is too short.
+pub fn refusal_in(answer: Result<usize, WriteError>) -> u8
+    ensures { result ≡ written_refusal answer }
+{
+    match answer {
+        Ok(_) => 0,
+        Err(WriteError::TooShort) => answers::refusal_number(Refusal::BufferTooShort),
+        Err(WriteError::NoRecord) => answers::refusal_number(Refusal::Format),
+    }
+}
+
+// By hand: 0 for none and no Option, as the C function and `record_size` of specs/ have it.
 // How many bytes the record of a tag has, 0 for an unknown tag and for that of a read of a whole context.
 pub fn record_length(tag: u8) -> u16
     ensures { result ≡ record_size tag }
 {
     let kind = records::kind_of_tag(tag);
-    if !has_numbers(kind) {
-        return 0;
+    if has_numbers(kind) {
+        3 + records::content_length(kind)
+    } else {
+        0
     }
-    3 + records::content_length(kind)
 }

@@ -1,12 +1,18 @@
 -- What the sum over the cells says of the places that hold a number.
-use mathlib.Core.Path.{◌≡◌, ◌∙◌}
+use mathlib.Core.Path.{◌≡◌, refl, sym, ◌∙◌}
+use mathlib.Core.Bool.{false}
 use mathlib.Core.List.{List}
 use Prim.Native.Nat.{ℕ, zero, suc, ◌+◌, ◌-◌, ◌*◌, ◌≤◌, ◌<◌}
 use native.Mathlib.Omega.{arith}
 use native.Mathlib.Decide.{ℕ_discrete}
-use lib.ListN.{get_or}
-use borrow.Author.Tests.{eq-eqb, ne_eqb}
-use Rattle.operations.specs.Search.{weight_at, weighed}
+use lib.Dec.{ltb}
+use lib.ListN.{get_or, take, length}
+use borrow.Author.Tests.{eq-eqb, ne_eqb, le-ltb, lt-ltb}
+use Rattle.std.specs.Prelude.{Option, Some, None, MatchOption}
+use Rattle.std.specs.Option.{is_some}
+use Rattle.std.specs.List.{AllWithin, HoldsAt}
+use Rattle.std.proofs.lemmas.List.{get_or-take, length-take-le}
+use Rattle.operations.specs.Search.{weight_at, weighed, IsPlace}
 use Rattle.operations.specs.{open_count, open_place}
 use Rattle.operations.proofs.Laws.{count_most, place_first, place_none}
 
@@ -84,3 +90,31 @@ module _ (l : List ℕ) (o : ℕ) where
         go (none q h) = absurd (some q)
         go (one i q a g h) = place_none l o (λ k c. h k (omega arith))
         go (several h) = absurd (omega arith)
+
+-- ---- a place that was found, or none
+
+pub found_open : (place count : ℕ) (r : Option ℕ) → IsPlace place count r → is_some r ≡ ltb place count
+found_open place count (Some i) h = sym (lt-ltb place count (omega (arith, h.0, h.1)))
+found_open place count None h = sym (le-ltb place count (omega (arith, h)))
+
+pub none_found : (place count : ℕ) (r : Option ℕ) → IsPlace place count r → ((i : ℕ) → r ≡ Some i → ⊥) → ltb place count ≡ false
+none_found place count (Some i) h n = absurd (n i refl)
+none_found place count None h n = le-ltb place count (omega (arith, h))
+
+-- the first cell in use that holds the number is the operation's place
+abbrev pub NotIn : List ℕ → ℕ → ℕ → Type 0
+NotIn used o n = AllWithin (λ x. x ≡ o → ⊥) used 0 n
+
+pub scanned : (l : List ℕ) (o : ℕ) (r : Option ℕ) → open_count l ≤ length l →
+    MatchOption r (NotIn (take (open_count l) l) o (length (take (open_count l) l)))
+    (λ i. (i < length (take (open_count l) l)) × HoldsAt (λ x. x ≡ o) (take (open_count l) l) i × NotIn (take (open_count l) l) o i) →
+    IsPlace (open_place l o) (open_count l) r
+scanned l o (Some i) b h =
+    let size : length (take (open_count l) l) ≡ open_count l = length-take-le (open_count l) l b in
+    let below : i < open_count l = omega (arith, h.0, size) in (
+      place_first l o i below (λ k q e. h.2 k 0 (omega arith) q (get_or-take (open_count l) l k 0 (omega arith) ∙ e)) (sym (get_or-take (open_count l) l i 0 below) ∙ h.1 0),
+      below,
+    )
+scanned l o None b h =
+    let size : length (take (open_count l) l) ≡ open_count l = length-take-le (open_count l) l b in
+    place_none l o (λ k q e. h k 0 (omega arith) (omega (arith, size)) (get_or-take (open_count l) l k 0 q ∙ e))

@@ -2,12 +2,13 @@
 #![tactic(auto)]
 
 ghost use Rattle.std.specs.Prelude.{◌≡◌, ◌≤◌, ◌<◌};
-ghost use Rattle.operations.specs.Search.{weight_at, weighed};
+ghost use Rattle.operations.specs.Search.{weight_at, weighed, IsPlace};
 ghost use Rattle.operations.specs.{open_count, last_given, none_open, open_place, is_open, room_to_open, opening, closing};
 
 use limits::{OPEN, Operation};
 
 // Where the number of the open operations and the last number given lie: specs/Lib.antt has the same places.
+// By hand: cells with a count beside them, and no list type, as callers lend the memory: a rule of the project (fixed memory, no heap).
 pub const COUNT: usize = 64;
 
 pub const LAST: usize = 65;
@@ -17,21 +18,11 @@ pub const CONTEXTS: usize = 66;
 
 pub const CELLS: usize = 642;
 
-fn wide(x: u32) -> usize
-    ensures { result ≡ x }
-{
-    x as usize
-}
-
 // How many operations are open.
 pub fn count(cells: &[u32; CELLS]) -> usize
     ensures { (result ≡ open_count cells.now) × (result ≤ 64) }
 {
-    let n = wide(cells[COUNT]);
-    if OPEN < n {
-        return OPEN;
-    }
-    n
+    (cells[COUNT] as usize).min(OPEN)
 }
 
 pub fn last(cells: &[u32; CELLS]) -> Operation
@@ -55,52 +46,39 @@ fn weigh(cells: &[u32; CELLS], o: Operation) -> u32
     ensures { result ≡ weighed cells.now o 64 }
 {
     let mut sum: u32 = 0;
-    let mut i: u32 = 0;
-    while i < 64 {
+    for i in 0..64u32 {
         sum += weight(cells[i as usize], o, i);
-        i += 1;
     }
     sum
 }
 
-// The first place of the operation among the open ones, or their number where it is not open.
-fn scan(cells: &[u32; CELLS], o: Operation) -> usize
-    ensures { result ≡ open_place cells.now o }
+// The first place of the operation among the open ones.
+fn scan(cells: &[u32; CELLS], o: Operation) -> Option<usize>
+    ensures { IsPlace (open_place cells.now o) (open_count cells.now) result }
 {
-    let n = count(cells);
-    let mut i: usize = 0;
-    while i < n {
-        if cells[i] == o {
-            return i;
-        }
-        i += 1;
-    }
-    n
+    cells[..count(cells)].iter().position(|x| *x == o)
 }
 
 // The same. Where more than one cell holds the number, which no run reaches, the cells are gone through one by one.
-fn find(cells: &[u32; CELLS], o: Operation) -> usize
-    ensures { result ≡ open_place cells.now o }
+fn find(cells: &[u32; CELLS], o: Operation) -> Option<usize>
+    ensures { IsPlace (open_place cells.now o) (open_count cells.now) result }
 {
     let n = count(cells);
     let sum = weigh(cells, o);
     if sum == 0 {
-        return n;
+        None
+    } else if 131072 <= sum {
+        scan(cells, o)
+    } else {
+        let i = (sum - 65536) as usize;
+        if i < n { Some(i) } else { None }
     }
-    if 131072 <= sum {
-        return scan(cells, o);
-    }
-    let i = wide(sum - 65536);
-    if i < n {
-        return i;
-    }
-    n
 }
 
 pub fn is_open(cells: &[u32; CELLS], o: Operation) -> bool
     ensures { result ≡ is_open cells.now o }
 {
-    find(cells, o) < count(cells)
+    find(cells, o).is_some()
 }
 
 pub fn has_room(cells: &[u32; CELLS]) -> bool
@@ -125,14 +103,11 @@ pub fn open(cells: &mut [u32; CELLS], o: Operation)
 pub fn close(cells: &mut [u32; CELLS], o: Operation) -> bool
     ensures { (result ≡ is_open cells.old o) × (cells.new ≡ closing cells.old o) }
 {
-    let n = count(cells);
-    let i = find(cells, o);
-    if n <= i {
+    let Some(i) = find(cells, o) else {
         return false;
-    }
-    let last = n - 1;
-    let p = cells[last];
-    cells[i] = p;
+    };
+    let last = count(cells) - 1;
+    cells[i] = cells[last];
     cells[last] = 0;
     cells[COUNT] = last as u32;
     true

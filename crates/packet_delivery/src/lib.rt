@@ -9,18 +9,17 @@ ghost use Rattle.protocol.specs.Steps.{is_sound, delivered};
 ghost use Rattle.packet_delivery.specs.{Leaves};
 
 use limits::OBJECTS;
+use messages::kinds;
 use protocol::{Decision, Refusal};
 use store::Write;
 use waiting::Packet;
 
 // Whether what the packet names is there.
+#[tactic(auto, unfolding(protocol::specs::Steps::is_sound))]
 fn is_sound(opens: &[u32; operations::CELLS], p: Packet) -> bool
     ensures { result ≡ is_sound opens.now p }
 {
-    if OBJECTS <= (p.object as usize) {
-        return false;
-    }
-    context_rows::has_row(opens, p)
+    (p.object as usize) < OBJECTS && context_rows::has_row(opens, p)
 }
 
 // The write that a packet holds.
@@ -36,6 +35,8 @@ fn write_of(p: Packet) -> Write
 }
 
 // What the delivery of the message that a packet holds does, by the packet's kind.
+// By hand: the three lent arrays one by one, as crates/dispatch says; and one match over the kinds, since they are the closed list of the paper, each with its own fields.
+#[tactic(auto, using(crate::proofs::Leaves::leaves), unfolding(protocol::specs::Delivery::delivered_message, protocol::specs::Messages::message_of, protocol::specs::Messages::context_message))]
 fn deliver_message(
     switch: &mut [u32; switch::CELLS],
     store: &mut [u32; store::CELLS],
@@ -51,27 +52,30 @@ fn deliver_message(
     let o = p.operation;
     let x = p.object;
     let v = p.value;
-    let kind = p.kind;
-    match kind {
-        1 => switch_delivery::unstamped_write(&mut *switch, store, at, o, x, v),
-        2 => switch_delivery::switch_read(switch, store, at, choice, o, x),
-        3 => replica_delivery::stamped_write(&mut *store, held, at, p.replica, write_of(p)),
-        4 => replica_delivery::direct_read(store, at, p.replica, p.number, p.stamp, o, x),
-        5 => replica_delivery::normal_read(store, at, p.replica, o, x, p.stamp),
-        6 => switch_delivery::complete(&mut *switch, at, x, p.stamp),
-        7 => replica_delivery::finish(&mut *opens, at, o, v, p.number),
-        8 => context_reads::switch_read(switch, store, &mut *opens, at, choice, o, v),
-        9 => {
-            context_answers::direct_read(store, &mut *opens, at, p.replica, p.number, p.stamp, o, v)
+    let w = write_of(p);
+    match p.kind {
+        kinds::UNSTAMPED_WRITE => switch_delivery::unstamped_write(switch, store, at, o, x, v),
+        kinds::SWITCH_READ => switch_delivery::switch_read(switch, store, at, choice, o, x),
+        kinds::STAMPED_WRITE => replica_delivery::stamped_write(store, held, at, p.replica, w),
+        kinds::DIRECT_READ => replica_delivery::direct_read(
+            store, at, p.replica, p.number, p.stamp, o, x,
+        ),
+        kinds::NORMAL_READ => replica_delivery::normal_read(store, at, p.replica, o, x, p.stamp),
+        kinds::COMPLETION => switch_delivery::complete(switch, at, x, p.stamp),
+        kinds::REPLY => replica_delivery::finish(opens, at, o, v, p.number),
+        kinds::CONTEXT_READ => context_reads::switch_read(switch, store, opens, at, choice, o, v),
+        kinds::DIRECT_CONTEXT => {
+            context_answers::direct_read(store, opens, at, p.replica, p.number, p.stamp, o, v)
         }
-        10 => context_answers::normal_read(store, &mut *opens, at, p.replica, o, v),
-        11 => context_answers::finish(&mut *opens, at, o, v),
-        12 => replica_delivery::acknowledge(&mut *store, at, p.replica, v),
+        kinds::NORMAL_CONTEXT => context_answers::normal_read(store, opens, at, p.replica, o, v),
+        kinds::CONTEXT_REPLY => context_answers::finish(opens, at, o, v),
+        kinds::ACKNOWLEDGEMENT => replica_delivery::acknowledge(store, at, p.replica, v),
         _ => decisions::drop_packet(at),
     }
 }
 
 // What the delivery of packet p does.
+#[tactic(auto, using(crate::proofs::Leaves::leaves), unfolding(protocol::specs::Steps::delivered))]
 pub fn deliver(
     switch: &mut [u32; switch::CELLS],
     store: &mut [u32; store::CELLS],
@@ -88,7 +92,7 @@ pub fn deliver(
         return decisions::refuse(Refusal::NoPacket);
     }
     if !is_sound(opens, p) {
-        return context_rows::leave(&mut *opens, p, at);
+        return context_rows::leave(opens, p, at);
     }
-    deliver_message(&mut *switch, &mut *store, &mut *opens, held, p, at, choice)
+    deliver_message(switch, store, opens, held, p, at, choice)
 }

@@ -11,6 +11,7 @@ use store::Write;
 use waiting::Edit;
 
 // What a start sets up: none, where there is no start record; or a chain of so many replicas (document 01, tag 32), or a quorum store of so many (document 02, Req 11, tag 33).
+// By hand: a case of its own for a start that is missing, and no Option: start_refused, start_refusal and new_store of specs/ give it a clause beside the two stores'.
 #[derive(Clone, Copy)]
 pub enum Setup {
     Missing,
@@ -38,33 +39,34 @@ pub enum Step {
     Execute,
 }
 
-// Document 01, 'Turned down': a refusal for each row of the table.
+// Document 01, 'Turned down': a refusal for each row of the table, by its number.
 #[derive(Clone, Copy)]
 pub enum Refusal {
-    Format,
-    Replicas,
-    ObjectNumber,
-    OperationsUsedUp,
-    OpenFull,
-    WaitingFull,
-    NoPacket,
-    UnstampedRepeat,
-    NotLive,
-    NoLinkedWrite,
-    SwitchNumber,
-    LastReplica,
-    NotOpen,
-    InputTooLong,
-    BufferTooShort,
-    SameObject,
-    ChainFull,
-    JoinUnderWay,
-    NoJoin,
-    WrongStore,
-    NothingToExecute,
+    Format = 1,
+    Replicas = 2,
+    ObjectNumber = 3,
+    OperationsUsedUp = 4,
+    OpenFull = 5,
+    WaitingFull = 6,
+    NoPacket = 7,
+    UnstampedRepeat = 8,
+    NotLive = 9,
+    NoLinkedWrite = 10,
+    SwitchNumber = 11,
+    LastReplica = 12,
+    NotOpen = 13,
+    InputTooLong = 14,
+    BufferTooShort = 15,
+    SameObject = 16,
+    ChainFull = 17,
+    JoinUnderWay = 18,
+    NoJoin = 19,
+    WrongStore = 23,
+    NothingToExecute = 24,
 }
 
 // A step was done; or done, and it finished an operation with a value and what a read says of a pending write, or a read of a whole context with its values; or refused.
+// By hand: four cases, and no Result with a refusal as its error: the theorems of linearizability and the exported session tell them apart by these names.
 #[derive(Clone, Copy)]
 pub enum Answer {
     Done,
@@ -75,6 +77,7 @@ pub enum Answer {
 
 // A packet by its kind: document 01, 'What delivery does'. The stamp of a normal read and of a reply is that of the pending write that the read goes round, (0,0) where
 // there is none. Four are of a read of a whole context, whose row in crates/contexts they name. An acknowledgement is of a follower, and says how many entries of the leader's log it has.
+// By hand: a case for what is no message, and no Option: message_of of specs/ gives every packet a message, and a packet that C lends may be of any kind.
 #[derive(Clone, Copy)]
 pub enum Message {
     UnstampedWrite(Operation, Object, Value),

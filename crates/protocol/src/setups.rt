@@ -1,6 +1,5 @@
 // The start: what a step sets up, and whether that is refused.
 ghost use Rattle.std.specs.Prelude.{◌≡◌};
-ghost use Rattle.protocol.specs.declared.Setup.TheVariants.{Quorum};
 ghost use Rattle.protocol.specs.Starts.{setup_of, start_refused, start_refusal, start_answer};
 
 use crate::{Answer, Refusal, Setup, Step};
@@ -16,32 +15,15 @@ pub fn setup_of(x: Step) -> Setup
     }
 }
 
-// Whether a quorum store of so many replicas is refused.
-fn quorum_refused(n: u8) -> bool
-    ensures { result ≡ start_refused (Quorum n) }
-{
-    if n == 3 {
-        return false;
-    }
-    if n == 5 {
-        return false;
-    }
-    n != 7
-}
-
 // Whether a start is refused.
+#[tactic(auto, unfolding(crate::specs::Starts::start_refused))]
 pub fn is_refused(b: Setup) -> bool
     ensures { result ≡ start_refused b }
 {
     match b {
         Setup::Missing => true,
-        Setup::Chain(n) => {
-            if n == 0 {
-                return true;
-            }
-            REPLICAS < (n as usize)
-        }
-        Setup::Quorum(n) => quorum_refused(n),
+        Setup::Chain(n) => n == 0 || REPLICAS < usize::from(n),
+        Setup::Quorum(n) => !matches!(n, 3 | 5 | 7),
     }
 }
 
@@ -51,8 +33,7 @@ pub fn refusal(b: Setup) -> Refusal
 {
     match b {
         Setup::Missing => Refusal::Format,
-        Setup::Chain(n) => Refusal::Replicas,
-        Setup::Quorum(n) => Refusal::Replicas,
+        Setup::Chain(_) | Setup::Quorum(_) => Refusal::Replicas,
     }
 }
 

@@ -1,12 +1,18 @@
--- How many numbers of a list pass a test, and a loop over at most eight places that counts those that do.
+-- How many numbers of a list pass a test, and how many of the live replicas do.
 use mathlib.Core.Path.{◌≡◌, refl, sym, ap, ◌∙◌}
 use mathlib.Core.Bool.{Bool, true, false, cond}
 use mathlib.Core.List.Memᴰ.{head as here}
 use mathlib.Core.List.Memᴰ.{tail as there}
 use mathlib.Core.List.{List, [], ◌∷◌, Memᴰ}
-use Prim.Native.Nat.{ℕ, zero, suc, ◌+◌, ◌≤◌, ◌<◌}
+use Prim.Native.Nat.{ℕ, zero, suc, ◌+◌, ◌≤◌}
 use native.Mathlib.Omega.{arith}
+use lib.ListN.{length}
+use Rattle.std.specs.List.{filter, range_with_len}
 use Rattle.lists.specs.{list_of}
+use Rattle.lists.proofs.Places.{list_of_same}
+use Rattle.store.specs.{live_count, order_at, members}
+use Rattle.chain.specs.{member_at}
+use Rattle.chain.proofs.Members.{member_order, count_most as count_most_live}
 use Rattle.quorum.specs.{count_of}
 
 -- where every number that passes one test passes another, the other counts no fewer
@@ -21,45 +27,36 @@ count_most f g (q ∷ l) h = go (f q) (g q) refl refl (count_most f g l (λ r m.
     go false true p e rest = omega (arith, rest)
     go false false p e rest = omega (arith, rest)
 
--- one place more
-count_next : (t : ℕ → Bool) (f : ℕ → ℕ) (n : ℕ) → count_of t (list_of f (suc n)) ≡ cond (t (f n)) (count_of t (list_of f n) + 1) (count_of t (list_of f n))
+-- no more than there are
+count_within : (t : ℕ → Bool) (f : ℕ → ℕ) (n : ℕ) → count_of t (list_of f n) ≤ n
 unfolding count_of list_of
-count_next t f zero = refl
-count_next t f (suc n) = go (t (f 0)) (t (f (suc n))) (count_of t (list_of (λ i. f (suc i)) n)) (count_of t (list_of (λ i. f (suc i)) (suc n))) (count_next t (λ i. f (suc i)) n)
+count_within t f zero = omega arith
+count_within t f (suc n) = go (t (f 0)) (count_within t (λ i. f (suc i)) n)
   where
-    go : (a b : Bool) (x y : ℕ) → y ≡ cond b (x + 1) x → cond a (y + 1) y ≡ cond b (cond a (x + 1) x + 1) (cond a (x + 1) x)
-    go true true x y e = rw e
-    go true false x y e = rw e
-    go false true x y e = rw e
-    go false false x y e = rw e
+    go : (b : Bool) → count_of t (list_of (λ i. f (suc i)) n) ≤ n → cond b (count_of t (list_of (λ i. f (suc i)) n) + 1) (count_of t (list_of (λ i. f (suc i)) n)) ≤ suc n
+    go true h = omega (arith, h)
+    go false h = omega (arith, h)
 
--- of the n places, which are those of the list f 0, f 1, .., found of the first i pass
-pub record Counted (t : ℕ → Bool) (f : ℕ → ℕ) (size n found i : ℕ) : Type 0 where
-  pub within : i ≤ n
-  pub count : n ≡ size
-  pub few : n ≤ 8
-  pub most : found ≤ i
-  pub sum : found ≡ count_of t (list_of f i)
+-- over the places of a range, g is what f gives from place a on
+count_range : (t : ℕ → Bool) (f g : ℕ → ℕ) (a n : ℕ) → ((i : ℕ) → f (a + i) ≡ g i) → length (filter (λ i. t (f i)) (range_with_len a n)) ≡ count_of t (list_of g n)
+unfolding count_of list_of
+count_range t f g a zero e = refl
+count_range t f g a (suc n) e =
+    let rest : List ℕ = filter (λ i. t (f i)) (range_with_len (a + 1) n) in
+    ap (λ (x : ℕ). length (cond (t x) (a ∷ rest) rest)) (ap f (omega arith) ∙ e 0) ∙
+    go (t (g 0)) rest (count_of t (list_of (λ i. g (suc i)) n)) (count_range t f (λ i. g (suc i)) (a + 1) n (λ i. ap f (omega arith) ∙ e (suc i)))
+  where
+    go : (b : Bool) (rest : List ℕ) (k : ℕ) → length rest ≡ k → length (cond b (a ∷ rest) rest) ≡ cond b (k + 1) k
+    go true rest k h = omega (arith, h)
+    go false rest k h = h
 
-module _ {t : ℕ → Bool} {f : ℕ → ℕ} {size n : ℕ} where
-  pub none_counted : (n ≡ size) × (n ≤ 8) → Counted t f size n 0 0
-  unfolding count_of list_of
-  none_counted e = record { within = omega arith; count = e.0; few = e.1; most = omega arith; sum = refl }
+-- the live replicas, by their places
+pub members_by_place : (s : List ℕ) → list_of (member_at s) (live_count s) ≡ members s
+unfolding members
+members_by_place s = list_of_same (member_at s) (order_at s) (live_count s) (λ i h. member_order s i h)
 
-  module _ {found i : ℕ} (p : Counted t f size n found i) where
-    next_is : (b : Bool) → t (f i) ≡ b → cond b (found + 1) found ≡ count_of t (list_of f (i + 1))
-    next_is b e =
-        ap (λ (k : ℕ). cond b (k + 1) k) p.sum ∙ ap (λ (c : Bool). cond c (count_of t (list_of f i) + 1) (count_of t (list_of f i))) (sym e) ∙ sym (count_next t f i) ∙ ap (λ (k : ℕ). count_of t (list_of f k)) (omega arith)
-
-    -- where the code has the number x of the place, the result r of its test, and what it then counts
-    module _ {x : ℕ} {r : Bool} {next : ℕ} (h : i < n) (a : x ≡ f i) (e : r ≡ t x) where
-      pub one_counted : r ≡ true → next ≡ found + 1 → Counted t f size n next (i + 1)
-      one_counted q s =
-          record { within = omega arith; count = p.count; few = p.few; most = omega (arith, s, p.most); sum = s ∙ next_is true (ap t (sym a) ∙ sym e ∙ q) }
-
-      pub one_passed_over : r ≡ false → next ≡ found → Counted t f size n next (i + 1)
-      one_passed_over q s =
-          record { within = omega arith; count = p.count; few = p.few; most = omega (arith, s, p.most); sum = s ∙ next_is false (ap t (sym a) ∙ sym e ∙ q) }
-
-    pub all_counted : n ≤ i → (found ≡ count_of t (list_of f size)) × (found ≤ 8)
-    all_counted h = (p.sum ∙ ap (λ (k : ℕ). count_of t (list_of f k)) (omega (arith, p.within, p.count)), omega (arith, p.most, p.within, p.few))
+-- how many of the live replicas pass a test, of which there are at most eight
+pub counted : (t : ℕ → Bool) (s : List ℕ) (n found : ℕ) → n ≡ live_count s → found ≡ length (filter (λ i. t (member_at s i)) (range_with_len 0 n)) → (found ≡ count_of t (members s)) × (found ≤ 8)
+counted t s n found e f =
+    let g : found ≡ count_of t (list_of (member_at s) n) = f ∙ count_range t (member_at s) (member_at s) 0 n (λ i. ap (member_at s) (omega arith)) in
+    (g ∙ ap (λ (k : ℕ). count_of t (list_of (member_at s) k)) e ∙ ap (count_of t) (members_by_place s), omega (arith, g, count_within t (member_at s) n, e, count_most_live s))

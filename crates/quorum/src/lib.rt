@@ -10,56 +10,45 @@ ghost use Rattle.quorum.specs.{logged_by, acknowledged_by, is_entry, items_taken
 use limits::{LAST_POSITION, Number, Position, Stamp, Table};
 use store::{ACKNOWLEDGED, CELLS, ITEMS, KIND, LOGGED, Write};
 
+// The leader's log holds at most so many entries that are not executed.
+const UNEXECUTED: Position = 64;
+
 // ---- what each replica has
 
 // How many entries of the leader's log the replica has logged.
 pub fn logged(cells: &[u32; CELLS], r: Table) -> Position
     ensures { result ≡ logged_by cells.now r }
 {
-    let i = LOGGED + store::row(r);
-    cells[i]
+    cells[LOGGED + store::row(r)]
 }
 
 // How many of them the leader knows it to have logged.
 pub fn acknowledged(cells: &[u32; CELLS], r: Table) -> Position
     ensures { result ≡ acknowledged_by cells.now r }
 {
-    let i = ACKNOWLEDGED + store::row(r);
-    cells[i]
+    cells[ACKNOWLEDGED + store::row(r)]
 }
 
 // ---- the links
-
-fn wide(p: Position) -> usize
-    ensures { (result ≡ p) × (result < 4294967296) }
-{
-    p as usize
-}
 
 // How many items the replica has taken; the leader has made them all.
 fn taken(cells: &[u32; CELLS], r: Table) -> usize
     ensures { result ≡ items_taken cells.now r }
 {
-    wide(logged(cells, r)) + wide(store::applied(cells, r))
+    logged(cells, r) as usize + store::applied(cells, r) as usize
 }
 
 fn is_entry(cells: &[u32; CELLS], p: usize) -> bool
     ensures { result ≡ is_entry cells.now p }
 {
-    let i = ITEMS + p % 64;
-    cells[i] == 1
+    cells[ITEMS + p % 64] == 1
 }
 
 // How many items the link to the replica holds.
 pub fn linked(cells: &[u32; CELLS], r: Table) -> usize
     ensures { result ≡ linked_items cells.now r }
 {
-    let all = taken(cells, chain::head(cells));
-    let own = taken(cells, r);
-    if all < own {
-        return 0;
-    }
-    all - own
+    taken(cells, chain::head(cells)).saturating_sub(taken(cells, r))
 }
 
 fn has_room(cells: &[u32; CELLS], r: Table) -> bool
@@ -72,15 +61,7 @@ fn has_room(cells: &[u32; CELLS], r: Table) -> bool
 fn links_have_room(cells: &[u32; CELLS]) -> bool
     ensures { result ≡ links_have_room cells.now }
 {
-    let n = chain::count(cells);
-    let mut i: usize = 0;
-    while i < n {
-        if !has_room(cells, chain::member(cells, i)) {
-            return false;
-        }
-        i += 1;
-    }
-    true
+    (0..chain::count(cells)).all(|i| has_room(cells, chain::member(cells, i)))
 }
 
 // ---- the leader logs
@@ -88,8 +69,7 @@ fn links_have_room(cells: &[u32; CELLS]) -> bool
 fn entry_stamp(cells: &[u32; CELLS], p: Position) -> Stamp
     ensures { result ≡ (entry_at cells.now p).stamp }
 {
-    let w = store::read_entry(cells, p);
-    w.stamp
+    store::read_entry(cells, p).stamp
 }
 
 // The stamp of the last entry.
@@ -97,38 +77,24 @@ fn last_logged(cells: &[u32; CELLS]) -> Stamp
     ensures { result ≡ last_logged cells.now }
 {
     let n = logged(cells, chain::head(cells));
-    if n == 0 {
-        return entry_stamp(cells, 0);
-    }
-    entry_stamp(cells, n - 1)
+    entry_stamp(cells, n.saturating_sub(1))
 }
 
 fn not_executed(cells: &[u32; CELLS]) -> Position
     ensures { result ≡ unexecuted cells.now }
 {
     let lead = chain::head(cells);
-    let all = logged(cells, lead);
-    let done = store::applied(cells, lead);
-    if all < done {
-        return 0;
-    }
-    all - done
+    logged(cells, lead).saturating_sub(store::applied(cells, lead))
 }
 
 // Whether the leader logs a write with this stamp; if not, the write is dropped.
 pub fn accepts(cells: &[u32; CELLS], stamp: Stamp) -> bool
     ensures { result ≡ logs cells.now stamp }
 {
-    if !stamp::above(stamp, last_logged(cells)) {
-        return false;
-    }
-    if 64 <= not_executed(cells) {
-        return false;
-    }
-    if !links_have_room(cells) {
-        return false;
-    }
-    logged(cells, chain::head(cells)) < LAST_POSITION
+    stamp::above(stamp, last_logged(cells))
+        && not_executed(cells) < UNEXECUTED
+        && links_have_room(cells)
+        && logged(cells, chain::head(cells)) < LAST_POSITION
 }
 
 // An item goes into every link: 1 for an entry, 0 for an executed stamp.
@@ -136,8 +102,7 @@ fn send(cells: &mut [u32; CELLS], item: u32)
     ensures { cells.new ≡ sending_item cells.old item }
 {
     let p = taken(cells, chain::head(cells));
-    let i = ITEMS + p % 64;
-    cells[i] = item;
+    cells[ITEMS + p % 64] = item;
 }
 
 // The replica has logged one entry more.
@@ -145,8 +110,7 @@ pub fn log_next(cells: &mut [u32; CELLS], r: Table)
     ensures { cells.new ≡ count_logged cells.old r }
 {
     let n = replicas::next_position(logged(cells, r));
-    let i = LOGGED + store::row(r);
-    cells[i] = n;
+    cells[LOGGED + store::row(r)] = n;
 }
 
 // The leader logs a write, and sends it to every follower.
@@ -155,9 +119,9 @@ pub fn log(cells: &mut [u32; CELLS], w: Write)
 {
     let lead = chain::head(cells);
     let p = logged(cells, lead);
-    store::put_entry(&mut *cells, p, w);
-    send(&mut *cells, 1);
-    log_next(&mut *cells, lead);
+    store::put_entry(cells, p, w);
+    send(cells, 1);
+    log_next(cells, lead);
 }
 
 // ---- a follower takes the oldest item of its link
@@ -181,12 +145,7 @@ pub fn acknowledge(cells: &mut [u32; CELLS], r: Table, k: Position)
     ensures { cells.new ≡ acknowledging cells.old r k }
 {
     let known = acknowledged(cells, r);
-    let i = ACKNOWLEDGED + store::row(r);
-    if known < k {
-        cells[i] = k;
-    } else {
-        cells[i] = known;
-    }
+    cells[ACKNOWLEDGED + store::row(r)] = known.max(k);
 }
 
 // ---- the leader executes
@@ -194,26 +153,16 @@ pub fn acknowledge(cells: &mut [u32; CELLS], r: Table, k: Position)
 fn is_holder(cells: &[u32; CELLS], p: Position, r: Table) -> bool
     ensures { result ≡ is_holder cells.now p r }
 {
-    if r == chain::head(cells) {
-        return true;
-    }
-    p < acknowledged(cells, r)
+    r == chain::head(cells) || p < acknowledged(cells, r)
 }
 
 // How many replicas hold entry p, as far as the leader knows.
 fn holders(cells: &[u32; CELLS], p: Position) -> usize
     ensures { (result ≡ count_of (is_holder cells.now p) (members cells.now)) × (result ≤ 8) }
 {
-    let n = chain::count(cells);
-    let mut found: usize = 0;
-    let mut i: usize = 0;
-    while i < n {
-        if is_holder(cells, p, chain::member(cells, i)) {
-            found += 1;
-        }
-        i += 1;
-    }
-    found
+    (0..chain::count(cells))
+        .filter(|i| is_holder(cells, p, chain::member(cells, *i)))
+        .count()
 }
 
 fn majority_holds(cells: &[u32; CELLS], p: Position) -> bool
@@ -226,13 +175,8 @@ fn majority_holds(cells: &[u32; CELLS], p: Position) -> bool
 pub fn executes(cells: &[u32; CELLS]) -> bool
     ensures { result ≡ executes cells.now }
 {
-    if not_executed(cells) == 0 {
-        return false;
-    }
-    if !majority_holds(cells, store::applied(cells, chain::head(cells))) {
-        return false;
-    }
-    links_have_room(cells)
+    let next = store::applied(cells, chain::head(cells));
+    not_executed(cells) != 0 && majority_holds(cells, next) && links_have_room(cells)
 }
 
 pub fn execute(cells: &mut [u32; CELLS])
@@ -240,8 +184,8 @@ pub fn execute(cells: &mut [u32; CELLS])
 {
     let lead = chain::head(cells);
     let w = next_entry(cells, lead);
-    send(&mut *cells, 0);
-    replicas::apply(&mut *cells, lead, w);
+    send(cells, 0);
+    replicas::apply(cells, lead, w);
 }
 
 // ---- direct reads
@@ -250,10 +194,8 @@ pub fn execute(cells: &mut [u32; CELLS])
 pub fn answers(cells: &[u32; CELLS], r: Table, number: Number, carried: Stamp) -> bool
     ensures { result ≡ answers_behind cells.now r number carried }
 {
-    if store::permitted(cells, r) != number as u32 {
-        return false;
-    }
-    !stamp::above(carried, store::highest(cells, r))
+    store::permitted(cells, r) == u32::from(number)
+        && !stamp::above(carried, store::highest(cells, r))
 }
 
 // ---- the start
@@ -261,6 +203,6 @@ pub fn answers(cells: &[u32; CELLS], r: Table, number: Number, carried: Stamp) -
 pub fn clear(cells: &mut [u32; CELLS], n: u8)
     ensures { cells.new ≡ quorum_store n }
 {
-    chain::clear(&mut *cells, n);
+    chain::clear(cells, n);
     cells[KIND] = 1;
 }

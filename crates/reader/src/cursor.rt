@@ -3,7 +3,7 @@ ghost use Rattle.std.specs.Prelude.{◌≡◌};
 ghost use Rattle.records.specs.Records.{next_at};
 
 use crate::next_at;
-use records::Next;
+use records::{Malformed, Record};
 
 #[derive(Clone, Copy)]
 pub struct Reader<'a> {
@@ -23,14 +23,11 @@ impl<'a> Reader<'a> {
     pub fn moved(self, at: usize) -> Reader<'a>
         ensures { (result.input ≡ self.entry.input) × (result.at ≡ at) }
     {
-        Reader {
-            input: self.input,
-            at,
-        }
+        Reader { at, ..self }
     }
 
     // What a run reads where the reader stands.
-    pub fn next(self) -> Next
+    pub fn next(self) -> Result<Option<Record>, Malformed>
         ensures { result ≡ next_at self.entry.input.now self.entry.at }
     {
         next_at(self.input, self.at)
@@ -38,7 +35,7 @@ impl<'a> Reader<'a> {
 }
 
 // What a reader reads at a position. Its parameters are plain, so that its callers need no proof about a `Reader`.
-pub fn read_at(input: &[u8], at: usize) -> Next
+pub fn read_at(input: &[u8], at: usize) -> Result<Option<Record>, Malformed>
     ensures { result ≡ next_at input.now at }
 {
     Reader::new(input).moved(at).next()

@@ -2,7 +2,7 @@
 #![tactic(auto)]
 
 ghost use Rattle.std.specs.Prelude.{◌≡◌, ◌+◌, ◌≤◌, ◌<◌, length};
-ghost use Rattle.records.specs.Records.{byte_at, two_at, four_at, objects_in, operation_in, step_of, record_of_kind, record_at, is_start, in_place, next_of, next_at};
+ghost use Rattle.records.specs.Records.{byte_at, two_at, four_at, objects_in, operation_in, step_of, record_of_kind, record_at, is_start, in_place, next_at};
 
 mod cursor;
 
@@ -10,7 +10,7 @@ use contexts::Objects;
 pub use cursor::{Reader, read_at};
 use protocol::{Setup, Step};
 use records::{
-    Found, GIVE_UP_KIND, NO_STEP, Next, QUORUM_KIND, is_length, is_short_give_up, kind_of,
+    GIVE_UP_KIND, Malformed, NO_STEP, QUORUM_KIND, Record, is_length, is_short_give_up, kind_of,
     kind_of_tag, within,
 };
 
@@ -18,7 +18,7 @@ use records::{
 fn byte_at(s: &[u8], i: usize) -> u8
     ensures { result ≡ byte_at s.now i }
 {
-    if i < s.len() { s[i] } else { 0 }
+    s.get(i).copied().unwrap_or(0)
 }
 
 // The number of two bytes at a position, the highest first.
@@ -26,20 +26,18 @@ fn two_at(s: &[u8], i: usize) -> u16
     requires { i ≤ length s.now + 14 }
     ensures { result ≡ two_at s.now i }
 {
-    let high = byte_at(s, i);
-    let low = byte_at(s, i + 1);
-    (high as u16) * 256 + (low as u16)
+    u16::from_be_bytes([byte_at(s, i), byte_at(s, i + 1)])
 }
 
+// By hand: from its two halves, as `four_at` of crates/records/specs has it.
 fn four_at(s: &[u8], i: usize) -> u32
     requires { i ≤ length s.now + 2 }
     ensures { result ≡ four_at s.now i }
 {
-    let high = two_at(s, i);
-    let low = two_at(s, i + 2);
-    (high as u32) * 65536 + (low as u32)
+    u32::from(two_at(s, i)) * 65536 + u32::from(two_at(s, i + 2))
 }
 
+// By hand: the bound on the length is asked of the three private functions that take a content apart. A struct for a content with this invariant would be made in one place and taken apart in each.
 // The objects that a content names, two bytes each. Past its end there are zeros, so nothing stands behind the last.
 fn objects_in(content: &[u8]) -> Objects
     requires { length content.now < 65536 }
@@ -64,12 +62,15 @@ fn operation_in(content: &[u8]) -> u32
     ensures { result ≡ operation_in content.now }
 {
     if is_short_give_up(GIVE_UP_KIND, content.len() as u16) {
-        return two_at(content, 0) as u32;
+        u32::from(two_at(content, 0))
+    } else {
+        four_at(content, 0)
     }
-    four_at(content, 0)
 }
 
 // The step of a kind with this content.
+// By hand: kinds are numbers, as crates/records says; and one match, since they are the closed list of the paper, each with fields of its own.
+#[tactic(auto, unfolding(records::specs::Records::step_of))]
 fn step_of(kind: usize, content: &[u8]) -> Step
     requires { length content.now < 65536 }
     ensures { result ≡ step_of kind content.now }
@@ -96,33 +97,33 @@ fn step_of(kind: usize, content: &[u8]) -> Step
 }
 
 // The record of a kind whose tag is at the position.
-fn record_of_kind(kind: usize, s: &[u8], at: usize) -> Found
+fn record_of_kind(kind: usize, s: &[u8], at: usize) -> Result<Record, Malformed>
     requires { at + 3 ≤ length s.now }
     ensures { result ≡ record_of_kind kind s.now at }
 {
     let length = two_at(s, at + 1);
-    if !is_length(kind, length) {
-        return Found::Malformed;
-    }
     let start = at + 3;
     let count = length as usize;
-    if !within(s.len(), start, count) {
-        return Found::Malformed;
+    if !is_length(kind, length) || !within(s.len(), start, count) {
+        return Err(Malformed);
     }
     let end = start + count;
-    Found::Record(step_of(kind, &s[start..end]), end)
+    Ok(Record {
+        step: step_of(kind, &s[start..end]),
+        end,
+    })
 }
 
 // The record of any kind at a position.
-pub fn record_at(s: &[u8], at: usize) -> Found
+pub fn record_at(s: &[u8], at: usize) -> Result<Record, Malformed>
     ensures { result ≡ record_at s.now at }
 {
     if !within(s.len(), at, 3) {
-        return Found::Malformed;
+        return Err(Malformed);
     }
     let kind = kind_of_tag(byte_at(s, at));
     if kind == NO_STEP {
-        return Found::Malformed;
+        return Err(Malformed);
     }
     record_of_kind(kind, s, at)
 }
@@ -132,45 +133,27 @@ fn is_start(step: Step) -> bool
     ensures { result ≡ is_start step }
 {
     let kind = kind_of(step);
-    if kind == 0 {
-        return true;
-    }
-    kind == QUORUM_KIND
+    kind == 0 || kind == QUORUM_KIND
 }
 
 // A start belongs in first place, every other step in a later one.
 fn in_place(first: bool, step: Step) -> bool
     ensures { result ≡ in_place first step }
 {
-    let start = is_start(step);
-    if first { start } else { !start }
+    is_start(step) == first
 }
 
-// What a run reads where this was found, in first place or in a later one.
-fn next_of(first: bool, found: Found) -> Next
-    ensures { result ≡ next_of first found }
-{
-    match found {
-        Found::Record(step, next) => {
-            if in_place(first, step) {
-                Next::Record(step, next)
-            } else {
-                Next::Malformed
-            }
-        }
-        Found::Malformed => Next::Malformed,
-    }
-}
-
-// The record that a run reads at a position.
-pub fn next_at(s: &[u8], at: usize) -> Next
+// The record that a run reads at a position, or none at the end of the input.
+pub fn next_at(s: &[u8], at: usize) -> Result<Option<Record>, Malformed>
     ensures { result ≡ next_at s.now at }
 {
-    if at == 0 {
-        return next_of(true, record_at(s, at));
+    let first = at == 0;
+    if !first && s.len() <= at {
+        return Ok(None);
     }
-    if s.len() <= at {
-        return Next::End;
+    let record = record_at(s, at)?;
+    if !in_place(first, record.step) {
+        return Err(Malformed);
     }
-    next_of(false, record_at(s, at))
+    Ok(Some(record))
 }

@@ -7,6 +7,7 @@ ghost use Rattle.reading.specs.{IsPrefixLen};
 use std::io;
 use std::io::Read;
 
+// By hand: a loop of its own, since only the reader knows how many turns it takes.
 // Reads until the buffer is full or there is no more. How many bytes were read. An error is one of reading.
 pub fn read_full(from: &mut impl Read, buf: &mut [u8]) -> io::Result<usize>
     ensures { IfOk result (λ n. IsPrefixLen n buf.new) }

@@ -6,6 +6,7 @@ use Prim.Native.Nat.{ℕ, zero, suc, ◌+◌, ◌*◌, ◌/◌, ◌%◌, ◌<◌
 use native.Mathlib.Omega.{arith}
 use lib.ListN.{length, take}
 use lib.Seq.{take_all}
+use Rattle.std.specs.Int.{to_be_bytes, w16, w32}
 use Rattle.records.specs.Records.{byte_at, two_bytes, four_bytes}
 
 -- both tests hold where one is made after the other
@@ -20,6 +21,20 @@ two_read a = omega arith
 
 pub four_read : (a : ℕ) → (a / 65536 / 256 * 256 + a / 65536 % 256) * 65536 + (a % 65536 / 256 * 256 + a % 65536 % 256) ≡ a
 four_read a = omega arith
+
+-- the bytes of a number as `to_be_bytes` gives them
+pub two_given : (a : ℕ) → a < 65536 → to_be_bytes w16 a ≡ two_bytes a
+unfolding two_bytes
+two_given a h = let high : a / 256 % 256 ≡ a / 256 = omega arith in rw high refl
+
+pub four_given : (a : ℕ) → a < 4294967296 → to_be_bytes w32 a ≡ four_bytes a
+unfolding four_bytes two_bytes
+four_given a h =
+    let p : a / 16777216 % 256 ≡ a / 65536 / 256 = omega arith in
+    let q : a / 65536 % 256 ≡ a / 65536 % 256 = refl in
+    let r : a / 256 % 256 ≡ a % 65536 / 256 = omega arith in
+    let s : a % 256 ≡ a % 65536 % 256 = omega arith in
+    rw (p, r, s) refl
 
 -- ---- reading, then writing
 

@@ -9,9 +9,11 @@ use lib.Dec.{leb, eqb, lit<}
 use lib.ListN.{length, take, drop}
 use lib.Seq.{get_or-drop, drop-drop}
 use borrow.Author.Tests.{le-leb, ne_eqb, leb-true, eqb-false}
+use Rattle.std.specs.Prelude.{Result, Ok, Err}
 use Rattle.protocol.specs.declared.Step.{Step}
-use Rattle.records.specs.declared.Found.{Found}
-use Rattle.records.specs.Records.{byte_at, two_at, no_step, kind_of_tag, tag_of, is_length, step_of, record_of_kind, record_at, AllBytes}
+use Rattle.records.specs.declared.Malformed.{Malformed}
+use Rattle.records.specs.declared.Record.{Record}
+use Rattle.records.specs.Records.{byte_at, two_at, no_step, kind_of_tag, tag_of, is_length, step_of, read_to, malformed, record_of_kind, record_at, AllBytes}
 use Rattle.records.proofs.Table.{tag_back}
 
 -- ---- a record seen from its position
@@ -41,17 +43,17 @@ bytes_take (x ∷ l) (suc n) b (suc i) = bytes_take l n (λ j. b (suc j)) i
 
 -- where tag, length and room are right, a record is found
 pub found : (l : List ℕ) (at k w : ℕ) → kind_of_tag (byte_at l at) ≡ k → k < 16 → two_at l (at + 1) ≡ w → is_length k w ≡ true → at + 3 + w ≤ length l
-    → record_at l at ≡ Found.Record (step_of k (take w (drop (at + 3) l))) (at + 3 + w)
+    → record_at l at ≡ Ok (read_to (step_of k (take w (drop (at + 3) l))) (at + 3 + w))
 unfolding record_at record_of_kind
 found l at k w tag below size allowed room =
     simp (le-leb (at + 3) (length l) (omega arith), tag, ne_eqb k no_step (λ e. omega arith), size, allowed, le-leb _ _ room)
 
 -- a test on the way to a record
-passed : (t : Bool) (x : Found) {s : Step} {n : ℕ} → cond t x Found.Malformed ≡ Found.Record s n → (t ≡ true) × (x ≡ Found.Record s n)
+passed : (t : Bool) (x : Result Record Malformed) {s : Step} {n : ℕ} → cond t x (Err malformed) ≡ Ok (read_to s n) → (t ≡ true) × (x ≡ Ok (read_to s n))
 passed true x e = (refl, e)
 passed false x e = let z : ◌≡◌ {A = ℕ} 0 1 = cc in absurd (omega arith)
 
-not_stopped : (t : Bool) (x : Found) {s : Step} {n : ℕ} → cond t Found.Malformed x ≡ Found.Record s n → (t ≡ false) × (x ≡ Found.Record s n)
+not_stopped : (t : Bool) (x : Result Record Malformed) {s : Step} {n : ℕ} → cond t (Err malformed) x ≡ Ok (read_to s n) → (t ≡ false) × (x ≡ Ok (read_to s n))
 not_stopped true x e = let z : ◌≡◌ {A = ℕ} 0 1 = cc in absurd (omega arith)
 not_stopped false x e = (refl, e)
 
@@ -64,7 +66,7 @@ pub record Parts (l : List ℕ) (at k w n : ℕ) (s : Step) : Type 0 where
   pub step : step_of k (take w (drop (at + 3) l)) ≡ s
   pub next : at + 3 + w ≡ n
 
-pub parts : (l : List ℕ) (at n : ℕ) (s : Step) → record_at l at ≡ Found.Record s n → Parts l at (kind_of_tag (byte_at l at)) (two_at l (at + 1)) n s
+pub parts : (l : List ℕ) (at n : ℕ) (s : Step) → record_at l at ≡ Ok (read_to s n) → Parts l at (kind_of_tag (byte_at l at)) (two_at l (at + 1)) n s
 unfolding record_at record_of_kind
 parts l at n s e =
     let k : ℕ = kind_of_tag (byte_at l at) in
@@ -73,12 +75,13 @@ parts l at n s e =
     let q = not_stopped (eqb k no_step) _ p.1 in
     let r = passed (is_length k w) _ q.1 in
     let t = passed (leb (at + 3 + w) (length l)) _ r.1 in
+    let same : read_to (step_of k (take w (drop (at + 3) l))) (at + 3 + w) ≡ read_to s n = cc t.1 in
     let known = tag_back (byte_at l at) (eqb-false k no_step q.0) in
     record {
       below = known.0;
       tag = sym known.1;
       size = r.0;
       room = leb-true _ _ t.0;
-      step = cc t.1;
-      next = cc t.1;
+      step = ap (λ (r : Record). r.step) same;
+      next = ap (λ (r : Record). r.end) same;
     }

@@ -9,11 +9,12 @@ use lib.Dec.{leb, eqb}
 use lib.ListN.{length, take, drop, length-append, length-drop, take-append-drop}
 use lib.Seq.{slice, take-add, take_at, drop_at, get_or-drop, length-take-le}
 use borrow.Author.Tests.{le-leb, lt-leb, ne_eqb, leb-true, not-true}
+use Rattle.std.specs.Prelude.{Option, Some, None, Result, Ok, Err}
 use Rattle.protocol.specs.declared.Step.{Step}
 use Rattle.protocol.specs.declared.Step.TheVariants.{GiveUp}
-use Rattle.records.specs.declared.Found.{Found}
-use Rattle.records.specs.declared.Next.{Next}
-use Rattle.records.specs.Records.{byte_at, two_at, two_bytes, four_bytes, kind_of_tag, tag_of, is_short_give_up, is_length, kind_of, content_of, header_of, record_of, step_of, record_at, is_short_at, is_start, in_place, next_of, next_at, is_writable, has_room, written_at, buffer_after, next_refusal, written_refusal, AllBytes, InRange}
+use Rattle.records.specs.declared.Malformed.{Malformed}
+use Rattle.records.specs.declared.Record.{Record}
+use Rattle.records.specs.Records.{byte_at, two_at, two_bytes, four_bytes, kind_of_tag, tag_of, is_short_give_up, is_length, kind_of, content_of, header_of, record_of, step_of, read_to, malformed, record_at, is_short_at, is_start, in_place, next_of, next_at, is_writable, has_room, written_at, buffer_after, next_refusal, written_refusal, AllBytes, InRange}
 use Rattle.records.proofs.Bytes.{two_read, two_written, first_bytes}
 use Rattle.records.proofs.Parts.{byte_from, two_from, content_from, bytes_drop, bytes_take, found, Parts, parts}
 use Rattle.records.proofs.Table.{length_bounds, row, read_as, short_give_up, short_read, kind_read, writable_read, tag_known, record_size_lem}
@@ -22,7 +23,7 @@ use Rattle.records.proofs.Table.{length_bounds, row, read_as, short_give_up, sho
 
 -- a record is read wherever it stands
 pub read_at : (s : Step) (l r : List ℕ) (at : ℕ) → is_writable s ≡ true → drop at l ≡ record_of s ++ r
-    → record_at l at ≡ Found.Record s (at + length (record_of s))
+    → record_at l at ≡ Ok (read_to s (at + length (record_of s)))
 unfolding record_of header_of two_bytes two_at
 read_at s l r at writable e =
     let t = row s writable in
@@ -37,7 +38,7 @@ read_at s l r at writable e =
 
 -- 'Reading a written record gives the step that was written', whatever stands before and after it; no range is asked of the step's numbers
 pub read_written : (s : Step) (buf : List ℕ) (at : ℕ) → is_writable s ≡ true → has_room buf at s ≡ true
-    → record_at (buffer_after buf at s) at ≡ Found.Record s (at + length (record_of s))
+    → record_at (buffer_after buf at s) at ≡ Ok (read_to s (at + length (record_of s)))
 unfolding buffer_after has_room
 read_written s buf at writable room =
     let fits : at + length (record_of s) ≤ length buf = leb-true _ _ room in
@@ -79,7 +80,7 @@ step_read l at k w n s b p =
     rw (← p.step) (kind_read k p.below c, λ long. r.0 (ap (is_short_give_up k) q.0 ∙ long), r.1)
 
 -- 'writing the step read gives the record's bytes'; Req 07: for every record but a give-up of length 2
-pub written_read : (l : List ℕ) (at n : ℕ) (s : Step) → AllBytes l → record_at l at ≡ Found.Record s n → is_short_at l at ≡ false → record_of s ≡ slice at n l
+pub written_read : (l : List ℕ) (at n : ℕ) (s : Step) → AllBytes l → record_at l at ≡ Ok (read_to s n) → is_short_at l at ≡ false → record_of s ≡ slice at n l
 unfolding record_of is_short_at
 written_read l at n s b e long =
     let k : ℕ = kind_of_tag (byte_at l at) in
@@ -103,7 +104,7 @@ short_record x y h g =
     rw (none, all, high, low)
 
 -- Req 07: a give-up of length 2 means the number of its two bytes, and 'writing the step read from a length-2 record gives the length-4 one'
-pub short_written : (l : List ℕ) (at n : ℕ) (s : Step) → AllBytes l → record_at l at ≡ Found.Record s n → is_short_at l at ≡ true
+pub short_written : (l : List ℕ) (at n : ℕ) (s : Step) → AllBytes l → record_at l at ≡ Ok (read_to s n) → is_short_at l at ≡ true
     → (s ≡ GiveUp (two_at l (at + 3))) × (n ≡ at + 5) × (record_of s ≡ 10 ∷ 0 ∷ 4 ∷ 0 ∷ 0 ∷ slice (at + 3) n l)
 unfolding is_short_at two_at
 short_written l at n s b e short =
@@ -125,17 +126,17 @@ short_written l at n s b e short =
     (step, end, rw (step, bytes) (short_record (byte_at l (at + 3)) (byte_at l (at + 3 + 1)) (b (at + 3)) (b (at + 3 + 1))))
 
 -- a step that is read has numbers that fit
-pub in_range : (l : List ℕ) (at n : ℕ) (s : Step) → AllBytes l → record_at l at ≡ Found.Record s n → InRange s
+pub in_range : (l : List ℕ) (at n : ℕ) (s : Step) → AllBytes l → record_at l at ≡ Ok (read_to s n) → InRange s
 in_range l at n s b e = (step_read l at _ _ n s b (parts l at n s e)).2
 
 -- a step that is read can be written
-pub read_writable : (l : List ℕ) (at n : ℕ) (s : Step) → record_at l at ≡ Found.Record s n → is_writable s ≡ true
+pub read_writable : (l : List ℕ) (at n : ℕ) (s : Step) → record_at l at ≡ Ok (read_to s n) → is_writable s ≡ true
 read_writable l at n s e =
     let p = parts l at n s e in
     rw (← p.step) (writable_read _ p.below _ (content_size l at _ _ n s p).1)
 
 -- the next position is past the record, by its own length, and within the input
-pub next_position_lem : (l : List ℕ) (at n : ℕ) (s : Step) → record_at l at ≡ Found.Record s n → (n ≡ at + 3 + two_at l (at + 1)) × (at < n) × (n ≤ length l)
+pub next_position_lem : (l : List ℕ) (at n : ℕ) (s : Step) → record_at l at ≡ Ok (read_to s n) → (n ≡ at + 3 + two_at l (at + 1)) × (at < n) × (n ≤ length l)
 next_position_lem l at n s e =
     let p = parts l at n s e in
     let next : at + 3 + two_at l (at + 1) ≡ n = p.next in
@@ -143,14 +144,14 @@ next_position_lem l at n s e =
     (sym next, omega arith, omega arith)
 
 -- and it has at most 19 bytes
-pub record_most : (l : List ℕ) (at n : ℕ) (s : Step) → record_at l at ≡ Found.Record s n → n ≤ at + 19
+pub record_most : (l : List ℕ) (at n : ℕ) (s : Step) → record_at l at ≡ Ok (read_to s n) → n ≤ at + 19
 record_most l at n s e =
     let p = parts l at n s e in
     let next : at + 3 + two_at l (at + 1) ≡ n = p.next in
     omega (arith, length_bounds (kind_of_tag (byte_at l at)) p.below (two_at l (at + 1)) p.size)
 
 -- so the step read, written where it was read, leaves the input as it was, but for a give-up of length 2
-pub rewritten : (l : List ℕ) (at n : ℕ) (s : Step) → AllBytes l → record_at l at ≡ Found.Record s n → is_short_at l at ≡ false → buffer_after l at s ≡ l
+pub rewritten : (l : List ℕ) (at n : ℕ) (s : Step) → AllBytes l → record_at l at ≡ Ok (read_to s n) → is_short_at l at ≡ false → buffer_after l at s ≡ l
 unfolding buffer_after has_room
 rewritten l at n s b e long =
     let w : ℕ = two_at l (at + 1) in
@@ -185,13 +186,13 @@ out_of_place true s e = e
 out_of_place false s e = rw e
 
 -- 'The first is a start; no other is': a record is read where it is a start in first place or another step in a later one ..
-pub next_found : (l : List ℕ) (at n : ℕ) (s : Step) → record_at l at ≡ Found.Record s n → is_start s ≡ eqb at 0 → next_at l at ≡ Next.Record s n
+pub next_found : (l : List ℕ) (at n : ℕ) (s : Step) → record_at l at ≡ Ok (read_to s n) → is_start s ≡ eqb at 0 → next_at l at ≡ Ok (Some (read_to s n))
 next_found l at n s e h =
     let p = next_position_lem l at n s e in
     next_inside l at (omega arith) ∙ rw (e, in_place_lem (eqb at 0) s h)
 
 -- .. and nowhere else: a missing or second start is malformed, whatever its n
-pub next_misplaced : (l : List ℕ) (at n : ℕ) (s : Step) → record_at l at ≡ Found.Record s n → is_start s ≡ not (eqb at 0) → next_at l at ≡ Next.Malformed
+pub next_misplaced : (l : List ℕ) (at n : ℕ) (s : Step) → record_at l at ≡ Ok (read_to s n) → is_start s ≡ not (eqb at 0) → next_at l at ≡ Err malformed
 next_misplaced l at n s e h =
     let p = next_position_lem l at n s e in
     next_inside l at (omega arith) ∙ rw (e, out_of_place (eqb at 0) s h)
@@ -201,45 +202,46 @@ unfolding in_place
 place_of true s e = e
 place_of false s e = not-true (is_start s) e
 
-read_in_place : (first : Bool) (f : Found) (s : Step) (n : ℕ) → next_of first f ≡ Next.Record s n → (f ≡ Found.Record s n) × (is_start s ≡ first)
-read_in_place first Found.Malformed s n e = let z : ◌≡◌ {A = ℕ} 0 1 = cc in absurd (omega arith)
-read_in_place first (Found.Record t m) s n e = go (in_place first t) refl e
+read_in_place : (first : Bool) (f : Result Record Malformed) (s : Step) (n : ℕ) → next_of first f ≡ Ok (Some (read_to s n))
+    → (f ≡ Ok (read_to s n)) × (is_start s ≡ first)
+read_in_place first (Err x) s n e = let z : ◌≡◌ {A = ℕ} 0 1 = cc in absurd (omega arith)
+read_in_place first (Ok r) s n e = let p = go (in_place first r.step) refl e in (ap Ok p.0, p.1)
   where
-    go : (b : Bool) → in_place first t ≡ b → cond b (Next.Record t m) Next.Malformed ≡ Next.Record s n
-        → (Found.Record t m ≡ Found.Record s n) × (is_start s ≡ first)
-    go true p q = let same : t ≡ s = cc in (cc, ap is_start (sym same) ∙ place_of first t p)
+    go : (b : Bool) → in_place first r.step ≡ b → cond b (Ok (Some r)) (Err malformed) ≡ Ok (Some (read_to s n))
+        → (r ≡ read_to s n) × (is_start s ≡ first)
+    go true p q = let same : r ≡ read_to s n = cc q in (same, ap (λ (x : Record). is_start x.step) (sym same) ∙ place_of first r.step p)
     go false p q = let z : ◌≡◌ {A = ℕ} 0 1 = cc in absurd (omega arith)
 
 -- so whatever a run reads is the record found there, and in place
-pub next_record : (l : List ℕ) (at n : ℕ) (s : Step) → next_at l at ≡ Next.Record s n → (record_at l at ≡ Found.Record s n) × (is_start s ≡ eqb at 0)
+pub next_record : (l : List ℕ) (at n : ℕ) (s : Step) → next_at l at ≡ Ok (Some (read_to s n)) → (record_at l at ≡ Ok (read_to s n)) × (is_start s ≡ eqb at 0)
 unfolding next_at
 next_record l at n s e = go (eqb at 0) (leb (length l) at) refl e
   where
-    f : Found
+    f : Result Record Malformed
     f = record_at l at
 
-    go : (a b : Bool) → eqb at 0 ≡ a → cond a (next_of true f) (cond b Next.End (next_of false f)) ≡ Next.Record s n
-        → (f ≡ Found.Record s n) × (is_start s ≡ eqb at 0)
+    go : (a b : Bool) → eqb at 0 ≡ a → cond a (next_of true f) (cond b (Ok None) (next_of false f)) ≡ Ok (Some (read_to s n))
+        → (f ≡ Ok (read_to s n)) × (is_start s ≡ eqb at 0)
     go true b p q = rw p (read_in_place true f s n q)
     go false true p q = let z : ◌≡◌ {A = ℕ} 0 1 = cc in absurd (omega arith)
     go false false p q = rw p (read_in_place false f s n q)
 
 -- the end is read at the end of the input and past it, but not in first place
-pub next_end : (l : List ℕ) (at : ℕ) → 0 < at → length l ≤ at → next_at l at ≡ Next.End
+pub next_end : (l : List ℕ) (at : ℕ) → 0 < at → length l ≤ at → next_at l at ≡ Ok None
 unfolding next_at
 next_end l at h g = simp (ne_eqb at 0 (λ e. omega arith), le-leb (length l) at g)
 
 -- a malformed record is read as one, and the start of an empty input is missing
-pub next_malformed : (l : List ℕ) (at : ℕ) → at < length l → record_at l at ≡ Found.Malformed → next_at l at ≡ Next.Malformed
+pub next_malformed : (l : List ℕ) (at : ℕ) → at < length l → record_at l at ≡ Err malformed → next_at l at ≡ Err malformed
 next_malformed l at h e = next_inside l at h ∙ rw e
 
-pub next_empty : next_at [] 0 ≡ Next.Malformed
+pub next_empty : next_at [] 0 ≡ Err malformed
 unfolding next_at record_at
 next_empty = refl
 
 -- ---- 'Turned down'
 
-pub malformed_is_1 : (l : List ℕ) (at : ℕ) → next_at l at ≡ Next.Malformed → next_refusal (next_at l at) ≡ 1
+pub malformed_is_1 : (l : List ℕ) (at : ℕ) → next_at l at ≡ Err malformed → next_refusal (next_at l at) ≡ 1
 malformed_is_1 l at e = rw e
 
 -- Req 02: a step with another number of objects is refused with 1, whatever the buffer's length; another step, with 15 where there is no room

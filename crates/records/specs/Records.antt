@@ -1,5 +1,5 @@
 -- The records of document 01, 'Steps and their records': a step as a list of bytes, what is read at a position, and what a writer leaves in its buffer.
-use Rattle.std.specs.Prelude.{Bool, true, false, cond, not, List, [], ◌∷◌, ◌++◌, ℕ, ◌+◌, ◌*◌, ◌/◌, ◌%◌, ◌<◌, leb, eqb, length, get_or, take, drop}
+use Rattle.std.specs.Prelude.{Bool, true, false, cond, not, List, [], ◌∷◌, ◌++◌, ℕ, ◌+◌, ◌*◌, ◌/◌, ◌%◌, ◌<◌, leb, eqb, length, get_or, take, drop, Option, Some, None, Result, Ok, Err}
 use Rattle.contexts.specs.declared.Objects.{Objects}
 use Rattle.contexts.specs.{is_count, is_naming}
 use Rattle.protocol.specs.Answers.{refusal_number}
@@ -8,9 +8,10 @@ use Rattle.protocol.specs.declared.Setup.{Setup}
 use Rattle.protocol.specs.declared.Setup.TheVariants.{Missing, Chain, Quorum}
 use Rattle.protocol.specs.declared.Step.{Step}
 use Rattle.protocol.specs.declared.Step.TheVariants.{Start, BeginRead, BeginWrite, Deliver, Lose, Repeat, Advance, Replace, Tell, Remove, GiveUp, BeginContext, Join, Copy, Execute}
-use Rattle.records.specs.declared.Found.{Found}
-use Rattle.records.specs.declared.Next.{Next}
-use Rattle.records.specs.declared.Written.{Written}
+use Rattle.records.specs.declared.Malformed.{Malformed}
+use Rattle.records.specs.declared.Record.{Record}
+use Rattle.records.specs.declared.WriteError.{WriteError}
+use Rattle.records.specs.declared.WriteError.TheVariants.{TooShort, NoRecord}
 
 -- ---- numbers: 'bytes of a number go highest first'
 
@@ -181,21 +182,29 @@ step_of k c =
     (cond (eqb k 11) (BeginContext (objects_in c))
     (cond (eqb k 12) Join (cond (eqb k 13) Copy (cond (eqb k 14) Execute (cond (eqb k 15) (Start (Quorum (byte_at c 0))) (Start Missing))))))))))))))))
 
+-- a record that is read: its step, and the position past it
+abbrev pub read_to : Step → ℕ → Record
+read_to s n = record { step = s; end = n }
+
+-- no record is read (refusal 1)
+abbrev pub malformed : Malformed
+malformed = record {}
+
 -- the record of a kind whose tag is at the position; refusal 1: 'wrong length, input ends early'
-unfoldable pub record_of_kind : ℕ → List ℕ → ℕ → Found
+unfoldable pub record_of_kind : ℕ → List ℕ → ℕ → Result Record Malformed
 record_of_kind k l at =
     cond (is_length k (two_at l (at + 1)))
     (cond (leb (at + 3 + two_at l (at + 1)) (length l))
-    (Found.Record (step_of k (take (two_at l (at + 1)) (drop (at + 3) l))) (at + 3 + two_at l (at + 1)))
-    Found.Malformed)
-    Found.Malformed
+    (Ok (read_to (step_of k (take (two_at l (at + 1)) (drop (at + 3) l))) (at + 3 + two_at l (at + 1))))
+    (Err malformed))
+    (Err malformed)
 
 -- the record at a position; refusal 1: 'input ends early' before the content, 'unknown tag'
-unfoldable pub record_at : List ℕ → ℕ → Found
+unfoldable pub record_at : List ℕ → ℕ → Result Record Malformed
 record_at l at =
     cond (leb (at + 3) (length l))
-    (cond (eqb (kind_of_tag (byte_at l at)) no_step) Found.Malformed (record_of_kind (kind_of_tag (byte_at l at)) l at))
-    Found.Malformed
+    (cond (eqb (kind_of_tag (byte_at l at)) no_step) (Err malformed) (record_of_kind (kind_of_tag (byte_at l at)) l at))
+    (Err malformed)
 
 -- Req 07: the record at a position is a give-up of length 2
 unfoldable pub is_short_at : List ℕ → ℕ → Bool
@@ -210,13 +219,13 @@ unfoldable pub in_place : Bool → Step → Bool
 in_place first s = cond first (is_start s) (not (is_start s))
 
 -- refusal 1: 'start missing or second', whatever its n
-abbrev pub next_of : Bool → Found → Next
-next_of first (Found.Record s n) = cond (in_place first s) (Next.Record s n) Next.Malformed
-next_of first Found.Malformed = Next.Malformed
+abbrev pub next_of : Bool → Result Record Malformed → Result (Option Record) Malformed
+next_of first (Ok r) = cond (in_place first r.step) (Ok (Some r)) (Err malformed)
+next_of first (Err e) = Err e
 
--- what a run reads at a position; in first place it reads no end, so the start of an empty input is missing
-unfoldable pub next_at : List ℕ → ℕ → Next
-next_at l at = cond (eqb at 0) (next_of true (record_at l at)) (cond (leb (length l) at) Next.End (next_of false (record_at l at)))
+-- what a run reads at a position: a record, none at the end of the input, or refusal 1; in first place it reads no end, so the start of an empty input is missing
+unfoldable pub next_at : List ℕ → ℕ → Result (Option Record) Malformed
+next_at l at = cond (eqb at 0) (next_of true (record_at l at)) (cond (leb (length l) at) (Ok None) (next_of false (record_at l at)))
 
 -- ---- the writer
 
@@ -245,8 +254,8 @@ unfoldable pub has_room : List ℕ → ℕ → Step → Bool
 has_room buf at s = leb (at + length (record_of s)) (length buf)
 
 -- refusal 15: 'lent buffer shorter than the record to write'
-unfoldable pub written_at : List ℕ → ℕ → Step → Written
-written_at buf at s = cond (is_writable s) (cond (has_room buf at s) (Written.Bytes (length (record_of s))) Written.TooShort) Written.Malformed
+unfoldable pub written_at : List ℕ → ℕ → Step → Result ℕ WriteError
+written_at buf at s = cond (is_writable s) (cond (has_room buf at s) (Ok (length (record_of s))) (Err TooShort)) (Err NoRecord)
 
 -- 'A writer changes no byte of its buffer beyond the record', and none at all where it is turned down
 unfoldable pub buffer_after : List ℕ → ℕ → Step → List ℕ
@@ -255,15 +264,14 @@ buffer_after buf at s =
 
 -- ---- 'Turned down': the number of the refusal that an answer is, 0 for none
 
-abbrev pub next_refusal : Next → ℕ
-next_refusal (Next.Record s n) = 0
-next_refusal Next.End = 0
-next_refusal Next.Malformed = refusal_number Refusal.Format
+abbrev pub next_refusal : Result (Option Record) Malformed → ℕ
+next_refusal (Ok o) = 0
+next_refusal (Err e) = refusal_number Refusal.Format
 
-abbrev pub written_refusal : Written → ℕ
-written_refusal (Written.Bytes n) = 0
-written_refusal Written.TooShort = refusal_number Refusal.BufferTooShort
-written_refusal Written.Malformed = refusal_number Refusal.Format
+abbrev pub written_refusal : Result ℕ WriteError → ℕ
+written_refusal (Ok n) = 0
+written_refusal (Err TooShort) = refusal_number Refusal.BufferTooShort
+written_refusal (Err NoRecord) = refusal_number Refusal.Format
 
 -- ---- numbers that fit their types
 

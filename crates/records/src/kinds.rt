@@ -4,6 +4,8 @@ ghost use Rattle.records.specs.Records.{kind_of_tag, tag_of, content_length, is_
 
 use protocol::{Setup, Step};
 
+// By hand: a kind is a number, and NO_STEP one that stands for none, since document 01 gives the kinds as tags' numbers and lengths, and `kind_of_tag`, `lengths` and `step_of` in
+// specs/Records.antt, which the contracts and theorems name, decide over them.
 // The kinds of step.
 const KINDS: usize = 16;
 
@@ -25,28 +27,21 @@ const LENGTHS: [u16; KINDS] = [1, 2, 6, 3, 2, 2, 1, 2, 1, 1, 4, 0, 0, 0, 0, 1];
 pub fn content_length(kind: usize) -> u16
     ensures { result ≡ content_length kind }
 {
-    if kind < KINDS { LENGTHS[kind] } else { 0 }
+    LENGTHS.get(kind).copied().unwrap_or(0)
 }
 
 // Req 02: 2 to 8 objects, two bytes each.
 fn is_context_length(n: u16) -> bool
     ensures { result ≡ is_context_length n }
 {
-    if n % 2 == 0 {
-        contexts::is_count((n / 2) as u32)
-    } else {
-        false
-    }
+    n % 2 == 0 && contexts::is_count(u32::from(n / 2))
 }
 
 // Req 07: whether this is a give-up of two bytes, which is read and never written.
 pub fn is_short_give_up(kind: usize, n: u16) -> bool
     ensures { result ≡ is_short_give_up kind n }
 {
-    if kind == GIVE_UP_KIND {
-        return n == 2;
-    }
-    false
+    kind == GIVE_UP_KIND && n == 2
 }
 
 // Whether the content of a record of this kind can have this length; another is refusal 1.
@@ -54,12 +49,10 @@ pub fn is_length(kind: usize, n: u16) -> bool
     ensures { result ≡ is_length kind n }
 {
     if kind == CONTEXT_KIND {
-        return is_context_length(n);
+        is_context_length(n)
+    } else {
+        is_short_give_up(kind, n) || n == content_length(kind)
     }
-    if is_short_give_up(kind, n) {
-        return true;
-    }
-    n == content_length(kind)
 }
 
 // The kind of step that a tag names, or none (refusal 1).

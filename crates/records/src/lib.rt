@@ -13,36 +13,27 @@ pub use kinds::{
 use protocol::Step;
 pub use writer::{is_writable, record_length, write_at};
 
-// What stands at a position: a record, as its step and the position past it, or none that is well formed (refusal 1).
+// A record that is read: its step, and the position past it.
 #[derive(Clone, Copy)]
-pub enum Found {
-    Record(Step, usize),
-    Malformed,
+pub struct Record {
+    pub step: Step,
+    pub end: usize,
 }
 
-// What a run reads at a position: a record, the end of the input, or refusal 1.
-#[derive(Clone, Copy)]
-pub enum Next {
-    Record(Step, usize),
-    End,
-    Malformed,
-}
+// No record that is well formed, or none that may stand there, is where one is read (refusal 1).
+#[derive(Clone, Copy, Debug)]
+pub struct Malformed;
 
-// What a writer answers: how many bytes it wrote, that the buffer is shorter than the record (refusal 15), or that the step has no record (refusal 1).
-#[derive(Clone, Copy)]
-pub enum Written {
-    Bytes(usize),
+// Why a step is not written: the buffer is shorter than its record (refusal 15), or it has no record (refusal 1).
+#[derive(Clone, Copy, Debug)]
+pub enum WriteError {
     TooShort,
-    Malformed,
+    NoRecord,
 }
 
 // Whether so many bytes from a position on lie within the size. No sum can wrap.
 pub fn within(size: usize, at: usize, count: usize) -> bool
     ensures { result ≡ leb (at + count) size }
 {
-    if at <= size {
-        count <= size - at
-    } else {
-        false
-    }
+    size.checked_sub(at).is_some_and(|room| count <= room)
 }

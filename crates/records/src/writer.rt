@@ -1,40 +1,33 @@
 // The writer: a step's record, at a position of a lent buffer.
-ghost use Rattle.std.specs.Prelude.{◌≡◌, ◌+◌, ◌/◌, ◌%◌, ◌≤◌, ◌∷◌, ◌++◌, length, take, replicate};
+ghost use Rattle.std.specs.Prelude.{◌≡◌, ◌+◌, ◌≤◌, ◌∷◌, ◌++◌, length, take, replicate};
 ghost use Rattle.std.proofs.Math.Seq.{paste};
 ghost use Rattle.std.proofs.lemmas.List.Edits.{sets};
 ghost use Rattle.protocol.specs.declared.Step.TheVariants.{Start};
 ghost use Rattle.records.specs.Records.{context_kind, content_length, header_of, two_bytes, four_bytes, place_bytes, object_bytes, record_of, is_writable, written_at, buffer_after};
 
 use crate::kinds::{CONTEXT_KIND, NO_STEP, QUORUM_KIND, content_length, kind_of, tag_of};
-use crate::{Written, within};
+use crate::{WriteError, within};
 use contexts::Objects;
 use protocol::{Setup, Step};
 
 // The length of the longest record.
 const LONGEST: usize = 19;
 
-// The two bytes of a number.
-fn high(x: u16) -> u8
-    ensures { result ≡ x / 256 }
+// These bytes, with others in place of those from a position on.
+fn with(bytes: [u8; LONGEST], at: usize, part: &[u8]) -> [u8; LONGEST]
+    requires { at + length part.now ≤ 19 }
+    ensures { result ≡ sets bytes at part.now }
 {
-    (x / 256) as u8
+    let mut next = bytes;
+    next[at..at + part.len()].copy_from_slice(part);
+    next
 }
 
-fn low(x: u16) -> u8
-    ensures { result ≡ x % 256 }
-{
-    (x % 256) as u8
-}
-
-// These bytes, with a number's two bytes from a position on.
 fn with_two(bytes: [u8; LONGEST], at: usize, x: u16) -> [u8; LONGEST]
     requires { at ≤ 17 }
     ensures { result ≡ sets bytes at (two_bytes x) }
 {
-    let mut next = bytes;
-    next[at] = high(x);
-    next[at + 1] = low(x);
-    next
+    with(bytes, at, &x.to_be_bytes())
 }
 
 // The header of a record whose content has n bytes, with zeros after it.
@@ -64,8 +57,7 @@ fn two_bytes(kind: usize, a: u16) -> [u8; LONGEST]
 fn four_bytes(kind: usize, a: u32) -> [u8; LONGEST]
     ensures { result ≡ header_of kind (content_length kind) ++ four_bytes a ++ replicate 12 0 }
 {
-    let bytes = two_bytes(kind, (a / 65536) as u16);
-    with_two(bytes, 5, (a % 65536) as u16)
+    with(header(kind, content_length(kind)), 3, &a.to_be_bytes())
 }
 
 fn two_and_one(kind: usize, a: u16, b: u8) -> [u8; LONGEST]
@@ -79,8 +71,7 @@ fn two_and_one(kind: usize, a: u16, b: u8) -> [u8; LONGEST]
 fn two_and_four(kind: usize, a: u16, b: u32) -> [u8; LONGEST]
     ensures { result ≡ header_of kind (content_length kind) ++ two_bytes a ++ four_bytes b ++ replicate 10 0 }
 {
-    let bytes = with_two(two_bytes(kind, a), 5, (b / 65536) as u16);
-    with_two(bytes, 7, (b % 65536) as u16)
+    with(two_bytes(kind, a), 5, &b.to_be_bytes())
 }
 
 // How many bytes the content of a read of these objects has.
@@ -118,6 +109,7 @@ fn setup_record(b: Setup) -> [u8; LONGEST]
 }
 
 // The record of a step, with other bytes after it.
+// By hand: one match, since the steps are the closed list of the paper, each with fields of its own.
 fn record_of(step: Step) -> [u8; LONGEST]
     ensures { take (length (record_of step)) result ≡ record_of step }
 {
@@ -166,27 +158,21 @@ fn put(buf: &mut [u8], at: usize, bytes: [u8; LONGEST], count: usize)
     requires { (at + count ≤ length buf.old) × (count ≤ 19) }
     ensures { buf.new ≡ paste buf.old at bytes count }
 {
-    let mut i = 0;
-    while i < count {
-        buf[at + i] = bytes[i];
-        i += 1;
-    }
+    buf[at..at + count].copy_from_slice(&bytes[..count]);
 }
 
-// Writes the step's record at a position. Where the step has none, or the buffer is too short, the buffer stays as it was.
-pub fn write_at(buf: &mut [u8], at: usize, step: Step) -> Written
+// By hand: a position beside the buffer, since callers lend the memory: the libraries have no heap.
+// Writes the step's record at a position. How many bytes that are; where the step has none, or the buffer is too short, the buffer stays as it was.
+pub fn write_at(buf: &mut [u8], at: usize, step: Step) -> Result<usize, WriteError>
     ensures { (result ≡ written_at buf.old at step) × (buf.new ≡ buffer_after buf.old at step) }
 {
-    let writable = is_writable(step);
-    let size = buf.len();
-    let count = record_length(step);
-    let room = within(size, at, count);
-    if writable {
-        if room {
-            put(buf, at, record_of(step), count);
-            return Written::Bytes(count);
-        }
-        return Written::TooShort;
+    if !is_writable(step) {
+        return Err(WriteError::NoRecord);
     }
-    Written::Malformed
+    let count = record_length(step);
+    if !within(buf.len(), at, count) {
+        return Err(WriteError::TooShort);
+    }
+    put(buf, at, record_of(step), count);
+    Ok(count)
 }

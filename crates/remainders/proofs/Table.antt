@@ -36,7 +36,8 @@ from f (x ∷ xs) i t (suc k) h =
 abbrev pub right : ℕ → ℕ → ℕ → Bool
 right n k x = eqb x (k % n)
 
-pub remainder_at : (n k : ℕ) (row : List ℕ) → T (every (right k) 0 row) → length row ≡ 256 → n ≡ k → (choice : ℕ) → choice < 256 → get_or row choice 0 ≡ choice % n
-remainder_at n k row t l e choice h =
+pub remainder_at : (n k : ℕ) (row : List ℕ) → T (every (right k) 0 row) → length row ≡ 256 → n ≡ k → (choice i : ℕ) → i ≡ choice → choice < 256 → get_or row i 0 ≡ choice % n
+remainder_at n k row t l e choice i q h =
+    ap (λ (j : ℕ). get_or row j 0) q ∙
     eqb→eq (get_or row choice 0) (choice % k) (subst (λ (m : ℕ). T (right k m (get_or row choice 0))) (zero-add choice) (from (right k) row 0 t choice (omega (arith, h, l)))) ∙
     ap (λ (m : ℕ). choice % m) (sym e)

@@ -8,10 +8,11 @@ mod rows;
 use rows::{BY_EIGHT, BY_FIVE, BY_FOUR, BY_ONE, BY_SEVEN, BY_SIX, BY_THREE, BY_TWO};
 
 // Of other counts than 1 to 8 nothing is promised but an answer.
+// By hand: `choice % n` is one line, but the papers name a constant table of 2,048 remainders in place of a division.
 pub fn remainder(choice: u8, n: usize) -> u8
     ensures { (1 ≤ n) → (n ≤ 8) → result ≡ choice % n }
 {
-    let i = choice as usize;
+    let i = usize::from(choice);
     match n {
         1 => BY_ONE[i],
         2 => BY_TWO[i],

@@ -8,6 +8,7 @@ ghost use Rattle.turns.specs.Promises.{turned, stands_as, Stands, one_turn};
 use turns::{Ran, Run};
 use waiting::Packet;
 
+// By hand: the machine's cells and packets are lent one by one, here and in crates/runs, since the C functions lend them so and the contracts name each by itself.
 // The next record of a run: its step is done, and its line goes into the buffer at the place `used`.
 fn next(
     input: &[u8],
@@ -28,6 +29,7 @@ fn next(
     turns::conclude(run, turn.found, done, out, used)
 }
 
+// By hand: a loop of its own, since the run itself says whether another record is read.
 // The records that follow, until the run is over or the place is past `stop`: their lines go into the buffer, one after the other, from the place `used` on.
 pub fn records(
     input: &[u8],

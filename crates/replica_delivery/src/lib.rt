@@ -2,7 +2,6 @@
 #![tactic(auto)]
 
 ghost use Rattle.std.specs.Prelude.{◌≡◌, [], ◌∷◌};
-ghost use Rattle.store.specs.{stamp_at};
 ghost use Rattle.replicas.specs.Replicas.{taking};
 ghost use Rattle.joins.specs.{handing_on};
 ghost use Rattle.protocol.specs.Reads.{answers_read};
@@ -25,11 +24,12 @@ fn answers(at: usize, w: Write) -> Edit
 fn take_at_tail(store: &mut [u32; store::CELLS], t: Table, w: Write)
     ensures { store.new ≡ handing_on (taking store.old t w) w }
 {
-    replicas::take(&mut *store, t, w);
-    joins::hand_on(&mut *store, w);
+    replicas::take(store, t, w);
+    joins::hand_on(store, w);
 }
 
 // A write that reaches a replica of a chain.
+#[tactic(auto, using(chain::proofs::Found::found), unfolding(protocol::specs::Delivery::chain_write, chain::specs::is_tail, chain::specs::table_of))]
 fn chain_write(
     store: &mut [u32; store::CELLS],
     held: usize,
@@ -40,38 +40,37 @@ fn chain_write(
     ensures { (result ≡ (chain_write store.old held at r w).decision)
         × (store.new ≡ (chain_write store.old held at r w).store) }
 {
-    let n = chain::count(store);
-    let place = chain::place(store, r);
-    if n <= place {
+    let Some(place) = chain::place(store, r) else {
         return decisions::drop_packet(at);
-    }
+    };
     let t = chain::member(store, place);
     if !replicas::accepts(store, t, w.stamp) {
         return decisions::drop_packet(at);
     }
-    if place + 1 != n {
-        replicas::take(&mut *store, t, w);
+    if place + 1 != chain::count(store) {
+        replicas::take(store, t, w);
         return decisions::drop_packet(at);
     }
     if decisions::is_overfull(held, 1, 2) {
         return decisions::refuse(Refusal::WaitingFull);
     }
-    take_at_tail(&mut *store, t, w);
+    take_at_tail(store, t, w);
     decisions::done(answers(at, w))
 }
 
 // Req 11: a write that reaches the leader of a quorum store.
+#[tactic(auto, unfolding(protocol::specs::Delivery::leader_write))]
 fn leader_write(store: &mut [u32; store::CELLS], at: usize, w: Write) -> Decision
     ensures { (result ≡ (leader_write store.old at w).decision)
         × (store.new ≡ (leader_write store.old at w).store) }
 {
     if quorum::accepts(store, w.stamp) {
-        quorum::log(&mut *store, w);
-        return decisions::drop_packet(at);
+        quorum::log(store, w);
     }
     decisions::drop_packet(at)
 }
 
+#[tactic(auto, unfolding(protocol::specs::Delivery::stamped_write))]
 pub fn stamped_write(
     store: &mut [u32; store::CELLS],
     held: usize,
@@ -83,39 +82,39 @@ pub fn stamped_write(
         × (store.new ≡ (stamped_write store.old held at r w).store) }
 {
     if store::is_quorum(store) {
-        return leader_write(&mut *store, at, w);
+        leader_write(store, at, w)
+    } else {
+        chain_write(store, held, at, r, w)
     }
-    chain_write(&mut *store, held, at, r, w)
 }
 
 // Req 11: the leader hears how many entries a follower has logged.
+#[tactic(auto, using(chain::proofs::Found::found), unfolding(protocol::specs::Delivery::acknowledgement))]
 pub fn acknowledge(store: &mut [u32; store::CELLS], at: usize, q: Replica, k: u32) -> Decision
     ensures { (result ≡ (acknowledgement store.old at q k).decision)
         × (store.new ≡ (acknowledgement store.old at q k).store) }
 {
-    if !store::is_quorum(store) {
-        return decisions::drop_packet(at);
+    if store::is_quorum(store) {
+        if let Some(t) = chain::table(store, q) {
+            quorum::acknowledge(store, t, k);
+        }
     }
-    let n = chain::count(store);
-    let place = chain::place(store, q);
-    if n <= place {
-        return decisions::drop_packet(at);
-    }
-    let t = chain::member(store, place);
-    quorum::acknowledge(&mut *store, t, k);
     decisions::drop_packet(at)
 }
 
 // Whether the replica answers a direct read of one object.
+#[tactic(auto, unfolding(protocol::specs::Reads::answers_read))]
 fn answers_read(store: &[u32; store::CELLS], q: Table, number: Number, t: Stamp, x: Object) -> bool
     ensures { result ≡ answers_read store.now q number t (x ∷ []) }
 {
     if store::is_quorum(store) {
-        return quorum::answers(store, q, number, t);
+        quorum::answers(store, q, number, t)
+    } else {
+        replicas::answers(store, q, x, number, t)
     }
-    replicas::answers(store, q, x, number, t)
 }
 
+#[tactic(auto, using(chain::proofs::Found::found), unfolding(protocol::specs::Delivery::direct_read))]
 pub fn direct_read(
     store: &[u32; store::CELLS],
     at: usize,
@@ -127,12 +126,9 @@ pub fn direct_read(
 ) -> Decision
     ensures { result ≡ direct_read store.now at r number t o x }
 {
-    let n = chain::count(store);
-    let place = chain::place(store, r);
-    if n <= place {
+    let Some(q) = chain::table(store, r) else {
         return decisions::drop_packet(at);
-    }
-    let q = chain::member(store, place);
+    };
     if answers_read(store, q, number, t, x) {
         let v = store::read_value(store, q, x);
         return decisions::pass_on(at, Message::Reply(o, v, 0, NONE as HeldFreshness));
@@ -143,26 +139,22 @@ pub fn direct_read(
     )
 }
 
+// By hand: a freshness is a number, as protocol::answers says.
 // What a read that carries the stamp of a pending write says of it, from the stamp of the value that it is answered with.
+#[tactic(auto, unfolding(protocol::specs::Delivery::freshness))]
 fn compare(stamp: Stamp, carried: Stamp) -> HeldFreshness
     ensures { result ≡ freshness stamp carried }
 {
     if carried == 0 {
-        return NONE as HeldFreshness;
+        NONE as HeldFreshness
+    } else if stamp::above(carried, stamp) {
+        OLD as HeldFreshness
+    } else {
+        NEW as HeldFreshness
     }
-    if stamp::above(carried, stamp) {
-        return OLD as HeldFreshness;
-    }
-    NEW as HeldFreshness
 }
 
-// The stamp of the value that replica r answers with: that of the object in its own table.
-fn value_stamp(store: &[u32; store::CELLS], r: Table, x: Object) -> Stamp
-    ensures { result ≡ stamp_at store.now r x }
-{
-    store::read_stamp(store, r, x)
-}
-
+#[tactic(auto, using(chain::proofs::Found::found), unfolding(protocol::specs::Delivery::normal_read, chain::specs::is_read_replica, chain::specs::table_of))]
 pub fn normal_read(
     store: &[u32; store::CELLS],
     at: usize,
@@ -173,11 +165,9 @@ pub fn normal_read(
 ) -> Decision
     ensures { result ≡ normal_read store.now at r o x carried }
 {
-    let n = chain::count(store);
-    let place = chain::place(store, r);
-    if n <= place {
+    let Some(place) = chain::place(store, r) else {
         return decisions::drop_packet(at);
-    }
+    };
     if !chain::is_read_place(store, place) {
         return decisions::pass_on(
             at,
@@ -186,10 +176,11 @@ pub fn normal_read(
     }
     let t = chain::member(store, place);
     let v = store::read_value(store, t, x);
-    let f = compare(value_stamp(store, t, x), carried);
+    let f = compare(store::read_stamp(store, t, x), carried);
     decisions::pass_on(at, Message::Reply(o, v, carried, f))
 }
 
+#[tactic(auto, using(operations::proofs::Laws::closing_shut), unfolding(protocol::specs::Delivery::reply))]
 pub fn finish(
     opens: &mut [u32; operations::CELLS],
     at: usize,
@@ -200,11 +191,11 @@ pub fn finish(
     ensures { (result ≡ (reply opens.old at o v f).decision)
         × (opens.new ≡ (reply opens.old at o v f).opens) }
 {
-    if !operations::close(&mut *opens, o) {
+    if !operations::close(opens, o) {
         return decisions::drop_packet(at);
     }
     Decision {
-        answer: Answer::Finished(o, v, f as Freshness),
+        answer: Answer::Finished(o, v, Freshness::from(f)),
         edit: decisions::take_out(at),
     }
 }

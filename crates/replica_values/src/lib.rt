@@ -15,15 +15,15 @@ pub const CHAIN: usize = 10;
 pub const POSITIONS: usize = 3;
 
 // The table that has the replica's value of an object, or 0.
+// By hand: 0 for none and no Option, here and below, as the C functions tell it and `table_for`, `value_of` and `positions_told` of specs/ have it.
 fn table(store: &[u32; CELLS], replica: Replica, object: u32) -> Table
     ensures { result ≡ table_for store.now replica object }
 {
     if OBJECTS <= (object as usize) {
         return 0;
     }
-    let place = chain::place(store, replica);
-    if place < chain::count(store) {
-        return chain::member(store, place);
+    if let Some(table) = chain::table(store, replica) {
+        return table;
     }
     if !joins::is_newcomer(store, replica) {
         return 0;
@@ -34,6 +34,7 @@ fn table(store: &[u32; CELLS], replica: Replica, object: u32) -> Table
     0
 }
 
+// By hand: this and `stamp` differ in what is read from the table; with that as a closure neither would be shorter.
 // The value of an object at a live or joining replica; 0 where there is no such replica or object, or no copy of it yet.
 pub fn value(store: &[u32; CELLS], replica: Replica, object: u32) -> u32
     ensures { result ≡ value_of store.now replica object }
@@ -102,11 +103,9 @@ pub fn positions(store: &[u32; CELLS], replica: Replica, out: &mut [u32; POSITIO
     if !store::is_quorum(store) {
         return 0;
     }
-    let place = chain::place(store, replica);
-    if chain::count(store) <= place {
+    let Some(t) = chain::table(store, replica) else {
         return 0;
-    }
-    let t = chain::member(store, place);
+    };
     let all = [
         quorum::logged(store, t),
         store::applied(store, t),

@@ -15,32 +15,22 @@ fn linked(cells: &[u32; CELLS]) -> Position
 {
     let first = store::applied(cells, chain::head(cells));
     let last = store::applied(cells, chain::tail(cells));
-    if first < last {
-        return 0;
-    }
-    first - last
+    first.saturating_sub(last)
 }
 
 // Whether the replica takes a write with this stamp; if not, the write is dropped.
 pub fn accepts(cells: &[u32; CELLS], r: Table, stamp: Stamp) -> bool
     ensures { result ≡ accepts cells.now r stamp }
 {
-    if !stamp::above(stamp, store::highest(cells, r)) {
-        return false;
-    }
-    if 64 <= linked(cells) {
-        return false;
-    }
-    store::applied(cells, r) < LAST_POSITION
+    stamp::above(stamp, store::highest(cells, r))
+        && linked(cells) < 64
+        && store::applied(cells, r) < LAST_POSITION
 }
 
 pub fn next_position(p: Position) -> Position
     ensures { result ≡ next_position p }
 {
-    if p < LAST_POSITION {
-        return p + 1;
-    }
-    p
+    p.saturating_add(1)
 }
 
 // The replica applies a write.
@@ -49,8 +39,8 @@ pub fn apply(cells: &mut [u32; CELLS], r: Table, w: Write)
 {
     let highest = stamp::larger(store::highest(cells, r), w.stamp);
     let applied = next_position(store::applied(cells, r));
-    store::put_write(&mut *cells, r, w);
-    store::raise(&mut *cells, r, highest, applied);
+    store::put_write(cells, r, w);
+    store::raise(cells, r, highest, applied);
 }
 
 // The replica applies a stamped write and puts it in the link to the next one.
@@ -58,8 +48,8 @@ pub fn take(cells: &mut [u32; CELLS], r: Table, w: Write)
     ensures { cells.new ≡ taking cells.old r w }
 {
     let p = store::applied(cells, r);
-    store::put_entry(&mut *cells, p, w);
-    apply(&mut *cells, r, w);
+    store::put_entry(cells, p, w);
+    apply(cells, r, w);
 }
 
 // How many writes the link into this place holds, for the replica there.
@@ -71,10 +61,7 @@ pub fn pending(cells: &[u32; CELLS], place: usize, r: Table) -> Position
     }
     let before = store::applied(cells, chain::member(cells, place - 1));
     let own = store::applied(cells, r);
-    if before < own {
-        return 0;
-    }
-    before - own
+    before.saturating_sub(own)
 }
 
 // The oldest write of the replica's incoming link.
@@ -95,10 +82,7 @@ pub fn is_not_above(cells: &[u32; CELLS], r: Table, carried: Stamp, o: Object) -
 pub fn answers(cells: &[u32; CELLS], r: Table, o: Object, number: Number, carried: Stamp) -> bool
     ensures { result ≡ answers_direct cells.now r number carried (o ∷ []) }
 {
-    if store::permitted(cells, r) != number as u32 {
-        return false;
-    }
-    is_not_above(cells, r, carried, o)
+    store::permitted(cells, r) == u32::from(number) && is_not_above(cells, r, carried, o)
 }
 
 // How many writes of the log are visible.

@@ -3,6 +3,7 @@
 
 use std::io;
 
+// By hand: a loop of its own, since the run itself says whether more is to be printed.
 fn print(rt: &impl Print, input: &[u8]) -> io::Result<()> {
     let mut switch = [0; switch::CELLS];
     let mut store = [0; store::CELLS];

@@ -19,7 +19,7 @@ use Rattle.chain.specs.{empty_cells}
 use Rattle.waiting.specs.declared.Packet.{Packet}
 use Rattle.waiting.specs.Waiting.{blank, none_wait}
 use Rattle.protocol.specs.Steps.{Machine, machine}
-use Rattle.records.specs.declared.Next.{Next}
+use Rattle.std.specs.Prelude.{None, Ok}
 use Rattle.turns.specs.declared.Run.{Run}
 use Rattle.turns.specs.declared.Ran.{Ran}
 use Rattle.turns.specs.Turns.{Standing, continued, next_printed, first_printed}
@@ -52,10 +52,10 @@ fitting_past room used (l ∷ ls) h = rw (lt-leb (used + length l) room (omega a
 fitting_over : (room used k : ℕ) (input : List ℕ) (u : Standing) → u.over ≡ true → joined (fitting room used (lines_from k input u)) ≡ []
 unfolding fitting lines_from joined
 fitting_over room used zero input u e = refl
-fitting_over room used (suc k) input u e = rw (over_next input u e) (go (leb (used + 0) room) (fitting_over room (used + 0) k input (continued u Next.End).then refl))
+fitting_over room used (suc k) input u e = rw (over_next input u e) (go (leb (used + 0) room) (fitting_over room (used + 0) k input (continued u (Ok None)).then refl))
   where
-    go : (t : Bool) → joined (fitting room (used + 0) (lines_from k input (continued u Next.End).then)) ≡ []
-        → joined (cond t ([] ∷ fitting room (used + 0) (lines_from k input (continued u Next.End).then)) []) ≡ []
+    go : (t : Bool) → joined (fitting room (used + 0) (lines_from k input (continued u (Ok None)).then)) ≡ []
+        → joined (cond t ([] ∷ fitting room (used + 0) (lines_from k input (continued u (Ok None)).then)) []) ≡ []
     go true later = later
     go false later = refl
 

@@ -13,7 +13,9 @@ use Rattle.lists.proofs.Tests.{both}
 use Rattle.protocol.specs.declared.Refusal.TheVariants.{InputTooLong}
 use Rattle.protocol.specs.Answers.{refusal_number}
 use Rattle.protocol.specs.Steps.{Machine}
-use Rattle.records.specs.declared.Next.{Next}
+use Rattle.std.specs.Prelude.{Option, Some, None, Result, Ok, Err}
+use Rattle.records.specs.declared.Malformed.{Malformed}
+use Rattle.records.specs.declared.Record.{Record}
 use Rattle.records.specs.Records.{next_at}
 use Rattle.line_lengths.specs.Lines.{no_line}
 use Rattle.line_lengths.proofs.Laws.{longest, refusal_length, answer_length}
@@ -24,20 +26,20 @@ use Rattle.runs.specs.Runs.{lines_from, joined, lines_on, lines_of, untouched, p
 use Rattle.runs.proofs.Ends.{over_prints, read_ahead, read_ahead_first}
 
 -- no line has more than `longest` bytes
-line_short : (u : Standing) (f : Next) → length (continued u f).line ≤ longest
-line_short u (Next.Record x n) = answer_length _ _ _ _
-line_short u Next.End = omega arith
-line_short u Next.Malformed = refusal_length _ _
+line_short : (u : Standing) (f : Result (Option Record) Malformed) → length (continued u f).line ≤ longest
+line_short u (Ok (Some r)) = answer_length _ _ _ _
+line_short u (Ok None) = omega arith
+line_short u (Err x) = refusal_length _ _
 
 pub next_short : (input : List ℕ) (u : Standing) → length (next_printed input u).line ≤ longest
 unfolding next_printed
 next_short input u = line_short u (read_next input u.over u.at)
 
-first_short : (m : Machine) (f : Next) → length (first_read m f).line ≤ longest
+first_short : (m : Machine) (f : Result (Option Record) Malformed) → length (first_read m f).line ≤ longest
 unfolding stopped started_with
-first_short m (Next.Record x n) = answer_length _ _ _ _
-first_short m Next.End = refusal_length _ _
-first_short m Next.Malformed = refusal_length _ _
+first_short m (Ok (Some r)) = answer_length _ _ _ _
+first_short m (Ok None) = refusal_length _ _
+first_short m (Err x) = refusal_length _ _
 
 pub begins_short : (m : Machine) (input : List ℕ) → length (first_printed m input).line ≤ longest
 unfolding first_printed stopped
@@ -49,16 +51,16 @@ unfolding lines_from joined next_printed
 lines_short zero input u within = omega arith
 lines_short (suc k) input u within = go (read_next input u.over u.at) refl (lines_short k input)
   where
-    go : (f : Next) → read_next input u.over u.at ≡ f
+    go : (f : Result (Option Record) Malformed) → read_next input u.over u.at ≡ f
         → ((v : Standing) → v.at ≤ length input → 3 * length (joined (lines_from k input v)) ≤ longest * (length input - v.at) + 3 * longest)
         → 3 * length ((continued u f).line ++ joined (lines_from k input (continued u f).then)) ≤ longest * (length input - u.at) + 3 * longest
-    go (Next.Record x n) e later =
-        let p = read_ahead input u.over u.at n x e in
-        omega (arith, length-append (continued u (Next.Record x n)).line (joined (lines_from k input (continued u (Next.Record x n)).then)), line_short u (Next.Record x n), later (continued u (Next.Record x n)).then p.1, p.0, p.1)
-    go Next.End e later = rw (over_prints k input (continued u Next.End).then refl) (omega arith)
-    go Next.Malformed e later =
-        rw (over_prints k input (continued u Next.Malformed).then refl, append-nil (continued u Next.Malformed).line)
-        (omega (arith, line_short u Next.Malformed))
+    go (Ok (Some r)) e later =
+        let p = read_ahead input u.over u.at r.end r.step e in
+        omega (arith, length-append (continued u (Ok (Some r))).line (joined (lines_from k input (continued u (Ok (Some r))).then)), line_short u (Ok (Some r)), later (continued u (Ok (Some r))).then p.1, p.0, p.1)
+    go (Ok None) e later = rw (over_prints k input (continued u (Ok None)).then refl) (omega arith)
+    go (Err x) e later =
+        rw (over_prints k input (continued u (Err x)).then refl, append-nil (continued u (Err x)).line)
+        (omega (arith, line_short u (Err x)))
 
 -- how long the output of an input is at the most
 pub printed_within : (input : List ℕ) → length input ≤ limits.input → length (printed input) ≤ 49 * length input + 294

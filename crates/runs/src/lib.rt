@@ -33,17 +33,6 @@ pub fn blank_places() -> [Packet; WAITING]
     [Packet::blank(); WAITING]
 }
 
-fn with_packets(ran: Ran, packets: [Packet; WAITING]) -> Piece
-    ensures { result ≡ record { run = ran.run; used = ran.used; packets = packets } }
-{
-    let run = ran.run;
-    Piece {
-        run,
-        used: ran.used,
-        packets,
-    }
-}
-
 // The records that follow, until the run is over or the place is past `stop`, with places for the packets that are handed in and handed back.
 pub fn print_piece(
     input: &[u8],
@@ -61,7 +50,11 @@ pub fn print_piece(
 {
     let mut row = packets;
     let ran = replay::records(input, run, switch, store, opens, &mut row, out, used, stop);
-    with_packets(ran, row)
+    Piece {
+        run: ran.run,
+        used: ran.used,
+        packets: row,
+    }
 }
 
 // Everything that the run program prints for an input, as far as whole lines have room in the buffer. How many bytes it has.
@@ -71,7 +64,7 @@ pub fn print(input: &[u8], out: &mut [u8]) -> usize
     let mut switch = [0; switch::CELLS];
     let mut store = [0; store::CELLS];
     let mut opens = [0; operations::CELLS];
-    let ran = turns::first(input, &mut switch, &mut store, &mut opens, &mut *out);
+    let ran = turns::first(input, &mut switch, &mut store, &mut opens, out);
     let all = print_piece(
         input,
         ran.run,
@@ -79,7 +72,7 @@ pub fn print(input: &[u8], out: &mut [u8]) -> usize
         &mut switch,
         &mut store,
         &mut opens,
-        &mut *out,
+        out,
         ran.used,
         turns::LAST_PLACE,
     );
@@ -110,15 +103,15 @@ pub fn first_piece(
         × Stands (record { run = result.run; used = result.used }) switch.new store.new opens.new result.packets out.new
         (first_piece (machine switch.old store.old opens.old (none_wait (replicate limits.waiting blank))) input.now out.old) }
 {
-    let ran = turns::first(input, &mut *switch, &mut *store, &mut *opens, &mut *out);
+    let ran = turns::first(input, switch, store, opens, out);
     print_piece(
         input,
         ran.run,
         blank_places(),
-        &mut *switch,
-        &mut *store,
-        &mut *opens,
-        &mut *out,
+        switch,
+        store,
+        opens,
+        out,
         ran.used,
         LAST_LINE,
     )
@@ -141,17 +134,7 @@ pub fn next_piece(
         × Stands (record { run = result.run; used = result.used }) switch.new store.new opens.new result.packets out.new
         (next_piece run switch.old store.old opens.old packets input.now out.old) }
 {
-    print_piece(
-        input,
-        run,
-        packets,
-        &mut *switch,
-        &mut *store,
-        &mut *opens,
-        &mut *out,
-        0,
-        LAST_LINE,
-    )
+    print_piece(input, run, packets, switch, store, opens, out, 0, LAST_LINE)
 }
 
 // Room for the longest input and one byte more, which tells an input that is too long.

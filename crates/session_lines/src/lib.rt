@@ -12,19 +12,21 @@ use protocol::Answer;
 fn context_from(count: u32, values: &[u32; 8]) -> Context
     ensures { result ≡ context_from count values.now }
 {
+    let [first, second, third, fourth, fifth, sixth, seventh, eighth] = *values;
     Context {
         count,
-        first: values[0],
-        second: values[1],
-        third: values[2],
-        fourth: values[3],
-        fifth: values[4],
-        sixth: values[5],
-        seventh: values[6],
-        eighth: values[7],
+        first,
+        second,
+        third,
+        fourth,
+        fifth,
+        sixth,
+        seventh,
+        eighth,
     }
 }
 
+// By hand: the fields of the session one by one, as the C function hands them in, 0 for none.
 fn answer_from(operation: u32, count: u32, values: &[u32; 8], freshness: u32) -> Answer
     ensures { result ≡ answer_from operation count values.now freshness }
 {
@@ -53,13 +55,14 @@ fn put_line(
         × (out.new ≡ put_in out.old 0 (line_for number refusal operation count values.now freshness waiting marks)) }
 {
     if refusal != 0 {
-        return lines::put_refusal(&mut *out, 0, number, refusal);
+        return lines::put_refusal(out, 0, number, refusal);
     }
     let answer = answer_from(operation, count, values, freshness);
     let held = waiting::held(waiting) as u32;
-    lines::put_answer(&mut *out, 0, number, answer, held, marks)
+    lines::put_answer(out, 0, number, answer, held, marks)
 }
 
+// By hand: the fields one by one, and 0 for a line without room, as the C function has them.
 // The line of record `number`, from the fields of its session, at the start of the buffer. How many bytes it has: 0 where the buffer is too short, and
 // unchanged.
 pub fn line(
@@ -78,10 +81,7 @@ pub fn line(
 {
     let room = out.len();
     let n = put_line(
-        number, refusal, operation, count, values, freshness, waiting, marks, &mut *out,
+        number, refusal, operation, count, values, freshness, waiting, marks, out,
     );
-    if n <= room {
-        return n;
-    }
-    0
+    if n <= room { n } else { 0 }
 }

@@ -1,6 +1,5 @@
 -- A session of the exported library: the answer of its last start or step, in numbers, and the step that it is handed.
-pub mod StartBytes
-use Rattle.std.specs.Prelude.{cond, List, ℕ, eqb, length}
+use Rattle.std.specs.Prelude.{cond, List, ℕ, eqb, length, Result, Ok, Err}
 use Rattle.contexts.specs.declared.Context.{Context}
 use Rattle.contexts.specs.{context}
 use Rattle.protocol.specs.declared.Answer.{Answer}
@@ -12,7 +11,8 @@ use Rattle.protocol.specs.declared.Step.TheVariants.{Start}
 use Rattle.protocol.specs.declared.Stepped.{Stepped}
 use Rattle.protocol.specs.Answers.{refusal_number, no_freshness}
 use Rattle.protocol.specs.Starts.{setup_of, start_refused, start_answer}
-use Rattle.records.specs.declared.Found.{Found}
+use Rattle.records.specs.declared.Malformed.{Malformed}
+use Rattle.records.specs.declared.Record.{Record}
 use Rattle.records.specs.Records.{record_at}
 use Rattle.sessions.specs.declared.Session.{Session}
 
@@ -46,9 +46,9 @@ freshness_in (FinishedContext o v) = no_freshness
 freshness_in (Refused r) = no_freshness
 
 -- the step of a record that fills the lent bytes; where there is none, a start that sets nothing up, which the machine refuses by 1
-abbrev pub whole_step : Found → ℕ → Step
-whole_step (Found.Record x n) size = cond (eqb n size) x (Start Missing)
-whole_step Found.Malformed size = Start Missing
+abbrev pub whole_step : Result Record Malformed → ℕ → Step
+whole_step (Ok r) size = cond (eqb r.end size) r.step (Start Missing)
+whole_step (Err e) size = Start Missing
 
 unfoldable pub asked_by : List ℕ → Step
 asked_by bytes = whole_step (record_at bytes 0) (length bytes)

@@ -1,20 +1,20 @@
 // A session after a start or a step.
 #![tactic(auto)]
 
-ghost use Rattle.std.specs.Prelude.{◌≡◌, ◌≤◌};
+ghost use Rattle.std.specs.Prelude.{◌≡◌};
 ghost use Rattle.contexts.specs.{context};
 ghost use Rattle.protocol.specs.Steps.{start_switch, start_store, start_opens};
-ghost use Rattle.sessions.specs.StartBytes.{start_length, setup_from};
 ghost use Rattle.sessions.specs.{refusal_in, no_values, session_started, whole_step, asked_by, start_asked, marks_after, session_after};
 
 use contexts::Context;
 use limits::Freshness;
 use protocol::answers::NONE;
 use protocol::{Answer, Setup, Step, Stepped, answers, setups};
-use records::Found;
+use records::{Malformed, Record};
 
 // The answer of the last start or step: its refusal or 0; the operation that it finished, or 0; how many values that has (0, 1 or 2 to 8), and the values; what a finished
 // read says of the pending write that it went round (0 for none, 1 for old, 2 for new); how many marks count then. `waiting` is the count of waiting packets that goes into the next step.
+// By hand: numbers, 0 for none, in place of an Option or an answer, since it is the struct of the C interface.
 #[repr(C)]
 #[derive(Clone, Copy)]
 pub struct Session {
@@ -59,13 +59,7 @@ fn one_value(v: u32) -> Context
     Context {
         count: 1,
         first: v,
-        second: 0,
-        third: 0,
-        fourth: 0,
-        fifth: 0,
-        sixth: 0,
-        seventh: 0,
-        eighth: 0,
+        ..no_values()
     }
 }
 
@@ -83,40 +77,21 @@ pub fn begin(
         × (opens.new ≡ start_opens (start_asked bytes.now) opens.old) }
 {
     let b = start_asked(bytes);
-    let answer = machine::start(b, &mut *switch, &mut *store, &mut *opens);
-    let refusal = refusal_in(answer);
-    if setups::is_refused(b) {
-        return Session {
-            refusal,
-            operation: 0,
-            values: no_values(),
-            freshness: NONE,
-            marks: before.marks,
-            waiting: before.waiting,
-        };
-    }
-    Session {
-        refusal,
-        operation: 0,
-        values: no_values(),
-        freshness: NONE,
-        marks: 0,
-        waiting: 0,
-    }
+    let answer = machine::start(b, switch, store, opens);
+    let (marks, waiting) = if setups::is_refused(b) {
+        (before.marks, before.waiting)
+    } else {
+        (0, 0)
+    };
+    session_of(refusal_in(answer), 0, no_values(), NONE, marks, waiting)
 }
 
-fn whole_step(found: Found, size: usize) -> Step
+fn whole_step(found: Result<Record, Malformed>, size: usize) -> Step
     ensures { result ≡ whole_step found size }
 {
     match found {
-        Found::Record(x, n) => {
-            if n == size {
-                x
-            } else {
-                Step::Start(Setup::Missing)
-            }
-        }
-        Found::Malformed => Step::Start(Setup::Missing),
+        Ok(record) if record.end == size => record.step,
+        _ => Step::Start(Setup::Missing),
     }
 }
 
@@ -127,49 +102,15 @@ pub fn asked(bytes: &[u8]) -> Step
     whole_step(reader::record_at(bytes, 0), bytes.len())
 }
 
-// How many bytes the content of a start with this tag has, 0 for a tag of no start.
-fn start_length(tag: u8) -> u8
-    ensures { (result ≡ start_length tag) × (result ≤ 1) }
-{
-    match tag {
-        32 => 1,
-        33 => 1,
-        _ => 0,
-    }
-}
-
-// What the start with this tag sets up.
-fn setup_from(tag: u8, n: u8) -> Setup
-    ensures { result ≡ setup_from tag n }
-{
-    match tag {
-        32 => Setup::Chain(n),
-        33 => Setup::Quorum(n),
-        _ => Setup::Missing,
-    }
-}
-
 // What the start of a record sets up. It does not call `asked`, which with one caller is compiled into the step.
 fn start_asked(bytes: &[u8]) -> Setup
     ensures { result ≡ start_asked bytes.now }
 {
-    if bytes.len() < 4 {
-        return Setup::Missing;
+    match bytes {
+        [32, 0, 1, n] => Setup::Chain(*n),
+        [33, 0, 1, n] => Setup::Quorum(*n),
+        _ => Setup::Missing,
     }
-    let size = start_length(bytes[0]);
-    if size == 0 {
-        return Setup::Missing;
-    }
-    if bytes[1] != 0 {
-        return Setup::Missing;
-    }
-    if bytes[2] != size {
-        return Setup::Missing;
-    }
-    if bytes.len() != 3 + (size as usize) {
-        return Setup::Missing;
-    }
-    setup_from(bytes[0], bytes[3])
 }
 
 // How many marks the session has after a step: a refused one leaves them as they were.
@@ -179,7 +120,7 @@ fn marks_after(before: u32, refusal: u8, marks: u32) -> u32
     if refusal == 0 { marks } else { before }
 }
 
-// A session of these numbers.
+// By hand: a session of these numbers, so that `begin` and each arm of `noted` is one line in place of six; the parameters are the fields of the C struct, in its order.
 fn session_of(
     refusal: u8,
     operation: u32,

@@ -1,19 +1,14 @@
 -- The answer for the records that are kept.
-use mathlib.Core.Path.{◌≡◌, refl, sym, ◌∙◌, subst}
+use mathlib.Core.Path.{◌≡◌, refl, ◌∙◌}
 use mathlib.Core.Bool.{Bool, true, false, cond}
 use mathlib.Core.List.{List, ◌++◌}
-use Prim.Native.Nat.{ℕ, zero, suc, ◌≤◌}
-use native.Mathlib.Omega.{arith}
+use Prim.Native.Nat.{ℕ, ◌≤◌}
 use lib.Dec.{eqb, leb}
-use lib.IntN.{pos, negsuc, neg_ℤ}
-use borrow.Author.Tests.{ne_eqb}
+use lib.IntN.{pos, neg_ℤ}
 use lib.ListN.{length, drop, replicate}
-use mir.Syntax.{w64}
-use mir.Val.{SFits}
-use mir.Facts.{sfits_lit}
-use Rattle.shortening.specs.Promises.{Within, Sound}
-use Rattle.shortening.proofs.Keeping.{kept_short}
-use Rattle.shortening.specs.Shortening.{refusal_of, kept_to, rounds, most_records, records_in, flags_of, shortened, kept_refusal, signed, handed}
+use Rattle.std.specs.Prelude.{Ok, Err, IfOk}
+use Rattle.shortening.specs.declared.ShortenError.{ShortenError}
+use Rattle.shortening.specs.Shortening.{refusal_of, kept_to, rounds, most_records, records_in, flags_of, shortened, kept_refusal, signed, answer_number, handed}
 
 -- what is kept in the end
 pub shortened_is : (l flags : List ℕ) (count k : ℕ) (start : List ℕ) → flags ≡ rounds most_records l count k start → count ≡ records_in l → k ≡ refusal_of l → start ≡ replicate most_records 1
@@ -44,26 +39,11 @@ module _ (l out : List ℕ) (some : eqb (refusal_of l) 0 ≡ false) where
       go true = refl
       go false = refl
 
--- an answer fits a signed number of 64 bits
-pub answer_fits : (t : Bool) (size : ℕ) → size ≤ 9728 → SFits w64 (cond t (pos size) (neg_ℤ (pos 15)))
-answer_fits true size h = record { sfits = omega arith }
-answer_fits false size h = sfits_lit tt
+-- the answer of what is handed out, as a number, and how long it is
+pub answer_of : (t : Bool) (size : ℕ) → answer_number (cond t (Ok size) (Err ShortenError.BufferTooShort)) ≡ cond t (pos size) (neg_ℤ (pos 15))
+answer_of true size = refl
+answer_of false size = refl
 
-pub signed_fits : (refusal size : ℕ) → refusal ≤ 255 → size ≤ 9728 → SFits w64 (signed refusal size)
-unfolding signed
-signed_fits zero size h g = record { sfits = omega arith }
-signed_fits (suc r) size h g =
-    let negative : signed (suc r) size ≡ negsuc r = rw (ne_eqb (suc r) 0 (λ e. omega (arith, e))) refl in
-    subst (SFits w64) (sym negative) (record { sfits = omega arith })
-
--- what is kept is a part of the input, so it is short
-pub kept_fits : (room : ℕ) (l : List ℕ) {count : ℕ} → Sound count l → count ≤ 512 → count ≡ records_in l → SFits w64 (signed (kept_refusal room l) (length (shortened l)))
-unfolding kept_refusal shortened
-kept_fits room l {count} sound few is =
-    signed_fits (kept_refusal room l) (length (shortened l)) (small (eqb (refusal_of l) 0) (leb (length (shortened l)) room))
-    (omega (arith, kept_short (records_in l) l (flags_of l) (subst (λ (n : ℕ). Within n l) is sound.within), sound.short))
-  where
-    small : (a b : Bool) → cond a 21 (cond b 0 15) ≤ 255
-    small true b = omega arith
-    small false true = omega arith
-    small false false = omega arith
+pub answer_short : (t : Bool) (size : ℕ) → size ≤ 9728 → IfOk (cond t (Ok size) (Err ShortenError.BufferTooShort)) (λ bytes. bytes ≤ 9728)
+answer_short true size h = h
+answer_short false size h = tt

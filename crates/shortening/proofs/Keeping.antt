@@ -8,19 +8,9 @@ use native.Mathlib.Numerals.{add-one}
 use native.Mathlib.Omega.{arith}
 use lib.Dec.{eqb}
 use lib.ListN.{length, get_or, take, drop, length-append, length-take}
-use lib.Seq.{paste, take-paste, length-paste, take_all, length-take-le}
 use Rattle.lists.proofs.Tests.{both}
 use Rattle.shortening.specs.Shortening.{size_at, place_of, kept_to}
 use Rattle.shortening.specs.Promises.{Within}
-
--- a part that was copied stands behind what stood there
-module _ (out b : List ℕ) (used : ℕ) (part : List ℕ) (room : used + length part ≤ length out) (e : b ≡ paste out used part (length part)) where
-  pub copied_there : take (used + length part) b ≡ take used out ++ part
-  copied_there =
-      ap (take (used + length part)) e ∙ take-paste out used part (length part) (omega arith) (omega arith) ∙ ap (λ (p : List ℕ). take used out ++ p) (take_all (length part) part (omega arith))
-
-  pub copied_length : length b ≡ length out
-  copied_length = ap length e ∙ length-paste out used part (length part) room (omega arith)
 
 -- a record that is kept, or nothing
 abbrev pub piece : ℕ → List ℕ → List ℕ
@@ -44,14 +34,6 @@ part_is l i at size p q =
 
 pub part_short : (l : List ℕ) (at size : ℕ) → length (take (at + size - at) (drop at l)) ≤ size
 part_short l at size = rw (add-sub_cancel_left at size, length-take) (omega arith)
-
--- so many bytes, copied to the buffer's start
-pub handed_over : (run out : List ℕ) (size : ℕ) (b : List ℕ) → size ≤ length run → b ≡ paste out 0 (take size run) (length (take size run)) → b ≡ take size run ++ drop size out
-handed_over run out size b h e =
-    let p = take size run in
-    let sized : length p ≡ size = length-take-le size run h in
-    let ends : 0 + length p ≡ size = omega (arith, sized) in
-    e ∙ (λ j. take_all (length p) p (omega arith) j ++ drop (ends j) out)
 
 -- none yet
 pub kept_none : (l flags : List ℕ) → kept_to 0 l flags ≡ []

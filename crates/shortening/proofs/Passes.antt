@@ -9,7 +9,6 @@ use lib.ListN.{length, length-set}
 use borrow.Author.Tests.{eq-eqb, ne_eqb}
 use Rattle.lists.proofs.Tests.{both}
 use Rattle.shortening.specs.Shortening.{drops, tried, passed, dropped, rounds}
-use Rattle.shortening.specs.Promises.{Trying}
 
 -- one turn of a pass
 pub passed_next : (l : List ℕ) (count k i : ℕ) (flags : List ℕ) → 0 < i → passed l count k i flags ≡ passed l count k (i - 1) (tried l count k flags i)
@@ -32,9 +31,6 @@ pub dropped_none : (l : List ℕ) (count k i : ℕ) (flags : List ℕ) → i ≡
 unfolding dropped
 dropped_none l count k i flags e = rw e refl
 
-pub one_drop : (b : Bool) → cond b 1 0 ≤ 1
-one_drop b = both (λ (n : ℕ). n ≤ 1) b (omega arith) (omega arith)
-
 -- the flags keep their number
 pub tried_length : (l : List ℕ) (count k : ℕ) (flags : List ℕ) (i : ℕ) → length (tried l count k flags i) ≡ length flags
 unfolding tried
@@ -44,11 +40,6 @@ pub passed_length : (l : List ℕ) (count k i : ℕ) (flags : List ℕ) → leng
 unfolding passed
 passed_length l count k zero flags = refl
 passed_length l count k (suc i) flags = passed_length l count k i (tried l count k flags (suc i)) ∙ tried_length l count k flags (suc i)
-
--- a trial can be made with other flags and buffers of the same lengths
-pub trying_kept : {count : ℕ} {l flags run lines flags' run' lines' : List ℕ} → Trying count l flags run lines → length flags' ≡ length flags → length run' ≡ length run → length lines' ≡ length lines
-    → Trying count l flags' run' lines'
-trying_kept t a b c = record { within = t.within; flagged = omega (arith, t.flagged, a); short = t.short; room = b ∙ t.room; printing = c ∙ t.printing }
 
 -- one turn of the passes
 pub rounds_stop : (f : ℕ) (l : List ℕ) (count k : ℕ) (flags : List ℕ) → 0 < f → dropped l count k (count - 2) flags ≡ 0

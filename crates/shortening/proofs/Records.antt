@@ -5,15 +5,17 @@ use mathlib.Core.List.{List}
 use Prim.Native.Nat.{ℕ, zero, suc, ◌+◌, ◌-◌, ◌≤◌, ◌<◌}
 use native.Mathlib.Numerals.{add-one}
 use native.Mathlib.Omega.{arith}
-use lib.Dec.{ltb}
+use lib.Dec.{eqb, ltb}
 use lib.ListN.{length}
 use borrow.Author.Tests.{ltb-true, ltb-false, lt-leb, le-leb}
-use Rattle.protocol.specs.declared.Step.{Step}
-use Rattle.records.specs.declared.Next.{Next}
+use Rattle.std.specs.Prelude.{Option, Some, None, Result, Ok, Err}
+use Rattle.records.specs.declared.Malformed.{Malformed}
+use Rattle.records.specs.declared.Record.{Record}
+use Rattle.std.specs.Char.{is_ascii_digit}
 use Rattle.records.specs.Records.{next_at}
 use Rattle.records.proofs.Round.{next_record, next_position_lem, record_most}
-use Rattle.shortening.specs.Shortening.{size_at, place_of, is_record, records_from, met_from, met, is_digit}
-use Rattle.shortening.specs.declared.Met.{Met}
+use Rattle.shortening.specs.Shortening.{size_at, place_of, is_record, records_from, met_from, met, is_digit, error_number}
+use Rattle.shortening.specs.declared.ShortenError.{ShortenError}
 use Rattle.shortening.specs.Promises.{Within, ScannedFrom, Scanned}
 
 -- a digit is a byte from 48 to 57
@@ -25,20 +27,31 @@ digit_bounds b e = go (ltb b 48) refl e
     go true p q = absurd (false≢true q)
     go false p q = (ltb-false b 48 p, ltb-true b 58 q)
 
+-- and std's test of a digit tells the same
+pub ascii_digit : (b : ℕ) → is_ascii_digit b ≡ is_digit b
+unfolding is_digit
+ascii_digit b = go (ltb b 48) refl (ltb b 58) refl
+  where
+    go : (t : Bool) → ltb b 48 ≡ t → (u : Bool) → ltb b 58 ≡ u → is_ascii_digit b ≡ cond t false u
+    go true e u f = rw (lt-leb 48 b (ltb-true b 48 e)) refl
+    go false e true f = rw (le-leb 48 b (ltb-false b 48 e), le-leb b 57 (omega (arith, ltb-true b 58 f))) refl
+    go false e false f = rw (le-leb 48 b (ltb-false b 48 e), lt-leb b 57 (omega (arith, ltb-false b 58 f))) refl
+
 -- what a run reads where it reads a record
-record_there : (f : Next) → is_record f ≡ true → (x : Step) × (n : ℕ) × (f ≡ Next.Record x n)
-record_there (Next.Record x n) e = (x, n, refl)
-record_there Next.End e = absurd (false≢true e)
-record_there Next.Malformed e = absurd (false≢true e)
+record_there : (f : Result (Option Record) Malformed) → is_record f ≡ true → (r : Record) × (f ≡ Ok (Some r))
+record_there (Ok (Some r)) e = (r, refl)
+record_there (Ok None) e = absurd (false≢true e)
+record_there (Err x) e = absurd (false≢true e)
 
 -- it lies within the input, and has 3 to 19 bytes
 pub record_lies : (l : List ℕ) (at : ℕ) → is_record (next_at l at) ≡ true → (at + size_at l at ≤ length l) × (3 ≤ size_at l at) × (size_at l at ≤ 19)
 unfolding size_at
 record_lies l at e =
-    let r = record_there (next_at l at) e in
-    let found = (next_record l at r.1 r.0 r.2).0 in
-    let p = next_position_lem l at r.1 r.0 found in
-    let m = record_most l at r.1 r.0 found in
+    let there = record_there (next_at l at) e in
+    let r = there.0 in
+    let found = (next_record l at r.end r.step there.1).0 in
+    let p = next_position_lem l at r.end r.step found in
+    let m = record_most l at r.end r.step found in
     (omega (arith, p.0, p.2), omega arith, omega (arith, p.0, m))
 
 pub size_least : (l : List ℕ) (at : ℕ) → 3 ≤ size_at l at
@@ -108,8 +121,15 @@ within_more count l w h i b = go (ltb i count) refl
         let last : suc i ≡ count + 1 = omega arith in rw last h
 
 -- what is found behind the start is what is found in all
-pub scanned_all : (r : Met) (l : List ℕ) → met l ≡ met_from (length l) l (size_at l 0) → ScannedFrom r l → Scanned r l
-scanned_all (Met.Records count) l e s = (e ∙ s.0, s.1, s.2)
-scanned_all Met.Malformed l e s = e ∙ s
-scanned_all Met.Replicas l e s = absurd s
-scanned_all Met.TooLong l e s = absurd s
+pub scanned_all : (r : Result ℕ ShortenError) (l : List ℕ) → met l ≡ met_from (length l) l (size_at l 0) → ScannedFrom r l → Scanned r l
+scanned_all (Ok count) l e s = (e ∙ s.0, s.1, s.2)
+scanned_all (Err r) l e s = e ∙ s
+
+-- an error has a number above 0
+pub error_some : (r : ShortenError) → eqb (error_number r) 0 ≡ false
+error_some ShortenError.Malformed = refl
+error_some ShortenError.Replicas = refl
+error_some ShortenError.InputTooLong = refl
+error_some ShortenError.TooManyRecords = refl
+error_some ShortenError.NotRefused = refl
+error_some ShortenError.BufferTooShort = refl

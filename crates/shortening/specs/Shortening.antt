@@ -1,12 +1,14 @@
 -- Document 02, Req 09, 'A shorter run that is still turned down': which records are kept, and what the writer of them answers.
-use Rattle.std.specs.Prelude.{Bool, true, false, cond, List, [], ◌++◌, ℕ, zero, suc, ◌+◌, ◌-◌, ◌*◌, eqb, leb, ltb, ℤ, pos, neg_ℤ, length, get_or, set, take, drop, replicate}
+use Rattle.std.specs.Prelude.{Bool, true, false, cond, List, [], ◌++◌, ℕ, zero, suc, ◌+◌, ◌-◌, ◌*◌, eqb, leb, ltb, ℤ, pos, neg_ℤ, length, get_or, set, take, drop, replicate, Option, Some, None, Result, Ok, Err}
 use Rattle.limits.specs as limits
 use Rattle.protocol.specs.declared.Refusal.TheVariants.{Format, Replicas, InputTooLong, BufferTooShort}
 use Rattle.protocol.specs.Answers.{refusal_number}
 use Rattle.protocol.specs.Starts.{setup_of, start_refused}
-use Rattle.records.specs.declared.Next.{Next}
+use Rattle.records.specs.declared.Malformed.{Malformed}
+use Rattle.records.specs.declared.Record.{Record}
 use Rattle.records.specs.Records.{two_at, next_at}
 use Rattle.runs.specs.Runs.{printed}
+use Rattle.shortening.specs.declared.ShortenError.{ShortenError}
 
 -- ---- the records of the input
 
@@ -20,10 +22,10 @@ place_of zero l = 0
 place_of (suc i) l = place_of i l + size_at l (place_of i l)
 
 -- a run reads a record there
-abbrev pub is_record : Next → Bool
-is_record (Next.Record x n) = true
-is_record Next.End = false
-is_record Next.Malformed = false
+abbrev pub is_record : Result (Option Record) Malformed → Bool
+is_record (Ok (Some r)) = true
+is_record (Ok None) = false
+is_record (Err e) = false
 
 -- the records from a position on that a run reads, at most so many
 unfoldable pub records_from : ℕ → List ℕ → ℕ → ℕ
@@ -36,10 +38,10 @@ met_from zero l at = 0
 met_from (suc f) l at = cond (leb (length l) at) 0 (cond (is_record (next_at l at)) (met_from f l (at + size_at l at)) (refusal_number Format))
 
 -- 'Before these come 14, then 1 or 2, as the run meets them'
-abbrev pub met_first : List ℕ → Next → ℕ
-met_first l (Next.Record x n) = cond (start_refused (setup_of x)) (refusal_number Replicas) (met_from (length l) l (size_at l 0))
-met_first l Next.End = refusal_number Format
-met_first l Next.Malformed = refusal_number Format
+abbrev pub met_first : List ℕ → Result (Option Record) Malformed → ℕ
+met_first l (Ok (Some r)) = cond (start_refused (setup_of r.step)) (refusal_number Replicas) (met_from (length l) l (size_at l 0))
+met_first l (Ok None) = refusal_number Format
+met_first l (Err e) = refusal_number Format
 
 unfoldable pub met : List ℕ → ℕ
 met l = cond (ltb limits.input (length l)) (refusal_number InputTooLong) (met_first l (next_at l 0))
@@ -130,6 +132,19 @@ shorten_refusal room l = cond (eqb (met l) 0) (cond (ltb most_records (records_i
 -- the length, or minus the refusal
 unfoldable pub signed : ℕ → ℕ → ℤ
 signed refusal size = cond (eqb refusal 0) (pos size) (neg_ℤ (pos refusal))
+
+-- the number of an error, and the number that is returned for a length or an error
+abbrev pub error_number : ShortenError → ℕ
+error_number ShortenError.Malformed = refusal_number Format
+error_number ShortenError.Replicas = refusal_number Replicas
+error_number ShortenError.InputTooLong = refusal_number InputTooLong
+error_number ShortenError.TooManyRecords = too_many_records
+error_number ShortenError.NotRefused = not_refused
+error_number ShortenError.BufferTooShort = refusal_number BufferTooShort
+
+abbrev pub answer_number : Result ℕ ShortenError → ℤ
+answer_number (Ok size) = pos size
+answer_number (Err e) = neg_ℤ (pos (error_number e))
 
 unfoldable pub shorten_answer : ℕ → List ℕ → ℤ
 shorten_answer room l = signed (shorten_refusal room l) (length (shortened l))

@@ -7,6 +7,8 @@ ghost use Rattle.slots.specs.{first_slot, second_slot, third_slot, holds_object,
 use limits::{Object, Stamp};
 
 // The object's slot in each stage.
+// By hand: three functions and not one over a const stage and divisor, as the document's rule has no number in common: `slot::<2, 64>(o)` would be no plainer than `third_slot(o)`, and its
+// contract would need a definition of its own.
 pub fn first_slot(o: Object) -> usize
     ensures { (result ≡ first_slot o) × (result < 48) }
 {
@@ -28,35 +30,23 @@ pub fn third_slot(o: Object) -> usize
 pub fn holds(object: u32, stamp: Stamp, o: Object) -> bool
     ensures { result ≡ holds_object object stamp o }
 {
-    if stamp == 0 { false } else { object == o }
+    stamp != 0 && object == o
 }
 
 pub fn is_free(stamp: Stamp, committed: Stamp) -> bool
     ensures { result ≡ is_free stamp committed }
 {
-    if stamp::above(stamp, committed) {
-        false
-    } else {
-        true
-    }
+    !stamp::above(stamp, committed)
 }
 
 pub fn holds_above(object: u32, stamp: Stamp, o: Object, c: Stamp) -> bool
     ensures { result ≡ holds_above object stamp o c }
 {
-    if holds(object, stamp, o) {
-        stamp::above(stamp, c)
-    } else {
-        false
-    }
+    holds(object, stamp, o) && stamp::above(stamp, c)
 }
 
 pub fn is_completed(object: u32, stamp: Stamp, o: Object, t: Stamp) -> bool
     ensures { result ≡ is_completed object stamp o t }
 {
-    if holds(object, stamp, o) {
-        if stamp::above(stamp, t) { false } else { true }
-    } else {
-        false
-    }
+    holds(object, stamp, o) && !stamp::above(stamp, t)
 }

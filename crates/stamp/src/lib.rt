@@ -1,22 +1,22 @@
 // Stamps: sequence numbers, compared by switch number and then by counter. Held as one number, they are compared by one test.
 #![tactic(auto)]
 
-ghost use Rattle.std.specs.Prelude.{◌≡◌};
-ghost use Rattle.stamp.specs.Stamps.{stamp_of, number_of, counter_of, is_above, larger_of};
+ghost use Rattle.std.specs.Prelude.{◌≡◌, get_or, set};
+ghost use Rattle.stamp.specs.Stamps.{stamp_of, number_of, counter_of, is_above, larger_of, stamp_in, set_stamp};
 
 use limits::{COUNTERS, Counter, Number, Stamp};
 
 pub fn make(number: Number, counter: Counter) -> Stamp
     ensures { result ≡ stamp_of number counter }
 {
-    (number as Stamp) * COUNTERS + (counter as Stamp)
+    joined(u32::from(number), counter)
 }
 
 // The stamp that two cells hold, its switch number's half first; whatever they hold, all that stands above the counter is the switch number.
 pub fn joined(upper: u32, lower: u32) -> Stamp
     ensures { result ≡ stamp_of upper lower }
 {
-    (upper as Stamp) * COUNTERS + (lower as Stamp)
+    Stamp::from(upper) * COUNTERS + Stamp::from(lower)
 }
 
 // Its halves.
@@ -41,5 +41,39 @@ pub fn above(a: Stamp, b: Stamp) -> bool
 pub fn larger(a: Stamp, b: Stamp) -> Stamp
     ensures { result ≡ larger_of a b }
 {
-    if above(b, a) { b } else { a }
+    a.max(b)
+}
+
+// ---- a stamp in two neighbouring cells, its switch number's half first; past the end a cell reads as 0 and takes nothing
+
+fn cell<const N: usize>(cells: &[u32; N], at: usize) -> u32
+    ensures { result ≡ get_or cells.now at 0 }
+{
+    cells.get(at).copied().unwrap_or(0)
+}
+
+fn put<const N: usize>(cells: &mut [u32; N], at: usize, x: u32)
+    ensures { cells.new ≡ set cells.old at x }
+{
+    if at < N {
+        cells[at] = x;
+    }
+}
+
+pub fn read<const N: usize>(cells: &[u32; N], at: usize) -> Stamp
+    ensures { result ≡ stamp_in cells.now at }
+{
+    if N <= at {
+        return 0;
+    }
+    joined(cell(cells, at), cell(cells, at + 1))
+}
+
+pub fn write<const N: usize>(cells: &mut [u32; N], at: usize, t: Stamp)
+    ensures { cells.new ≡ set_stamp cells.old at t }
+{
+    if at < N {
+        put(cells, at, upper(t));
+        put(cells, at + 1, lower(t));
+    }
 }

@@ -8,38 +8,40 @@ ghost use Rattle.protocol.specs.Steps.{lost, copied, repeated, sending, chain_ad
 
 mod quorum_steps;
 
-use limits::{CONTEXTS, Number, Operation, Replica, Table};
+use limits::{Number, Operation, Replica, Table};
 use protocol::{Decision, Refusal};
 pub use quorum_steps::execute;
 use store::Write;
 use switch::cells;
 use waiting::{Edit, Packet};
 
+#[tactic(auto, unfolding(protocol::specs::Steps::lost))]
 pub fn lose(opens: &mut [u32; operations::CELLS], held: usize, p: Packet, at: usize) -> Decision
     ensures { (result ≡ (lost opens.old held p at).decision) × (opens.new ≡ (lost opens.old held p at).opens) }
 {
     if held <= at {
         return decisions::refuse(Refusal::NoPacket);
     }
-    context_rows::leave(&mut *opens, p, at)
+    context_rows::leave(opens, p, at)
 }
 
 // A copy of the packet; one of a context has a copy of its row.
+#[tactic(auto, using(contexts::proofs::Found::found), unfolding(protocol::specs::Steps::copied))]
 fn copy(opens: &mut [u32; operations::CELLS], p: Packet) -> Decision
     ensures { (result ≡ (copied opens.old p).decision) × (opens.new ≡ (copied opens.old p).opens) }
 {
     if !messages::is_of_context(p) {
         return decisions::done(decisions::add_one(p));
     }
-    let row = contexts::free_row(opens);
-    if CONTEXTS <= row {
+    let Some(row) = contexts::free_row(opens) else {
         return decisions::refuse(Refusal::WaitingFull);
-    }
+    };
     let v = contexts::load(opens, p.value);
-    contexts::hold(&mut *opens, row, v);
+    contexts::hold(opens, row, v);
     decisions::done(decisions::add_one(messages::in_row(p, row)))
 }
 
+#[tactic(auto, unfolding(protocol::specs::Steps::repeated))]
 pub fn repeat(opens: &mut [u32; operations::CELLS], held: usize, p: Packet, at: usize) -> Decision
     ensures { (result ≡ (repeated opens.old held p at).decision) × (opens.new ≡ (repeated opens.old held p at).opens) }
 {
@@ -52,7 +54,7 @@ pub fn repeat(opens: &mut [u32; operations::CELLS], held: usize, p: Packet, at: 
     if decisions::is_overfull(held, 0, 1) {
         return decisions::refuse(Refusal::WaitingFull);
     }
-    copy(&mut *opens, p)
+    copy(opens, p)
 }
 
 // The reply and the completion that the tail, or the leader, sends for a write.
@@ -66,47 +68,49 @@ fn send(w: Write) -> Edit
 fn apply_at_tail(store: &mut [u32; store::CELLS], t: Table, w: Write)
     ensures { store.new ≡ handing_on (applying store.old t w) w }
 {
-    replicas::apply(&mut *store, t, w);
-    joins::hand_on(&mut *store, w);
+    replicas::apply(store, t, w);
+    joins::hand_on(store, w);
 }
 
 // A replica of a chain applies the oldest write of its incoming link.
+#[tactic(auto, using(chain::proofs::Found::found), unfolding(protocol::specs::Steps::chain_advancing, chain::specs::is_tail, chain::specs::table_of))]
 fn advance_in_chain(store: &mut [u32; store::CELLS], held: usize, r: Replica) -> Decision
     ensures { (result ≡ (chain_advancing store.old held r).decision)
         × (store.new ≡ (chain_advancing store.old held r).store) }
 {
-    let n = chain::count(store);
-    let place = chain::place(store, r);
-    if n <= place {
+    let Some(place) = chain::place(store, r) else {
         return decisions::refuse(Refusal::NotLive);
-    }
+    };
     let t = chain::member(store, place);
     if replicas::pending(store, place, t) == 0 {
         return decisions::refuse(Refusal::NoLinkedWrite);
     }
     let w = replicas::oldest(store, t);
-    if place + 1 != n {
-        replicas::apply(&mut *store, t, w);
+    if place + 1 != chain::count(store) {
+        replicas::apply(store, t, w);
         return decisions::done(decisions::no_edit());
     }
     if decisions::is_overfull(held, 0, 2) {
         return decisions::refuse(Refusal::WaitingFull);
     }
-    apply_at_tail(&mut *store, t, w);
+    apply_at_tail(store, t, w);
     decisions::done(send(w))
 }
 
 // A replica takes the oldest item of its incoming link.
+#[tactic(auto, unfolding(protocol::specs::Steps::advancing))]
 pub fn advance(store: &mut [u32; store::CELLS], held: usize, r: Replica) -> Decision
     ensures { (result ≡ (advancing store.old held r).decision)
         × (store.new ≡ (advancing store.old held r).store) }
 {
     if store::is_quorum(store) {
-        return quorum_steps::advance_follower(&mut *store, held, r);
+        quorum_steps::advance_follower(store, held, r)
+    } else {
+        advance_in_chain(store, held, r)
     }
-    advance_in_chain(&mut *store, held, r)
 }
 
+#[tactic(auto, unfolding(protocol::specs::Steps::replacing))]
 pub fn replace(switch: &mut [u32; switch::CELLS], number: Number) -> Decision
     ensures { (result ≡ (replacing switch.old number).decision)
         × (switch.new ≡ (replacing switch.old number).switch) }
@@ -114,26 +118,24 @@ pub fn replace(switch: &mut [u32; switch::CELLS], number: Number) -> Decision
     if number <= cells::number(switch) {
         return decisions::refuse(Refusal::SwitchNumber);
     }
-    let next = cells::load(switch).replace(number);
-    cells::store(&mut *switch, next);
+    cells::store(switch, cells::load(switch).replace(number));
     decisions::done(decisions::no_edit())
 }
 
 // The replica permits the present switch.
+#[tactic(auto, using(chain::proofs::Found::found), unfolding(protocol::specs::Steps::telling))]
 pub fn tell(switch: &[u32; switch::CELLS], store: &mut [u32; store::CELLS], r: Replica) -> Decision
     ensures { (result ≡ (telling switch.now store.old r).decision)
         × (store.new ≡ (telling switch.now store.old r).store) }
 {
-    let n = chain::count(store);
-    let place = chain::place(store, r);
-    if n <= place {
+    let Some(t) = chain::table(store, r) else {
         return decisions::refuse(Refusal::NotLive);
-    }
-    let t = chain::member(store, place);
-    chain::permit(&mut *store, t, cells::number(switch));
+    };
+    chain::permit(store, t, cells::number(switch));
     decisions::done(decisions::no_edit())
 }
 
+#[tactic(auto, using(chain::proofs::Found::found), unfolding(protocol::specs::Steps::removing))]
 pub fn remove(store: &mut [u32; store::CELLS], r: Replica) -> Decision
     ensures { (result ≡ (removing store.old r).decision)
         × (store.new ≡ (removing store.old r).store) }
@@ -141,28 +143,29 @@ pub fn remove(store: &mut [u32; store::CELLS], r: Replica) -> Decision
     if store::is_quorum(store) {
         return decisions::refuse(Refusal::WrongStore);
     }
-    let n = chain::count(store);
-    if n <= chain::place(store, r) {
+    if chain::place(store, r).is_none() {
         return decisions::refuse(Refusal::NotLive);
     }
-    if n <= 1 {
+    if chain::count(store) <= 1 {
         return decisions::refuse(Refusal::LastReplica);
     }
-    joins::remove(&mut *store, r);
+    joins::remove(store, r);
     decisions::done(decisions::no_edit())
 }
 
+#[tactic(auto, using(operations::proofs::Laws::closing_shut), unfolding(protocol::specs::Steps::giving_up))]
 pub fn give_up(opens: &mut [u32; operations::CELLS], o: Operation) -> Decision
     ensures { (result ≡ (giving_up opens.old o).decision)
         × (opens.new ≡ (giving_up opens.old o).opens) }
 {
-    if !operations::close(&mut *opens, o) {
+    if !operations::close(opens, o) {
         return decisions::refuse(Refusal::NotOpen);
     }
     decisions::done(decisions::no_edit())
 }
 
 // A replica begins to join.
+#[tactic(auto, unfolding(protocol::specs::Steps::joining))]
 pub fn join(store: &mut [u32; store::CELLS]) -> Decision
     ensures { (result ≡ (joining store.old).decision) × (store.new ≡ (joining store.old).store) }
 {
@@ -175,11 +178,12 @@ pub fn join(store: &mut [u32; store::CELLS]) -> Decision
     if joins::is_joining(store) {
         return decisions::refuse(Refusal::JoinUnderWay);
     }
-    joins::begin(&mut *store);
+    joins::begin(store);
     decisions::done(decisions::no_edit())
 }
 
 // The next objects are copied to the replica that joins.
+#[tactic(auto, unfolding(protocol::specs::Steps::copying_on))]
 pub fn copy_on(store: &mut [u32; store::CELLS]) -> Decision
     ensures { (result ≡ (copying_on store.old).decision) × (store.new ≡ (copying_on store.old).store) }
 {
@@ -189,6 +193,6 @@ pub fn copy_on(store: &mut [u32; store::CELLS]) -> Decision
     if !joins::is_joining(store) {
         return decisions::refuse(Refusal::NoJoin);
     }
-    joins::copy(&mut *store);
+    joins::copy(store);
     decisions::done(decisions::no_edit())
 }

@@ -2,12 +2,12 @@
 #![tactic(auto)]
 
 ghost use Rattle.std.specs.Prelude.{◌≡◌, ◌<◌};
-ghost use Rattle.stamp.specs.Stamps.{stamp_in, set_stamp};
-ghost use Rattle.store.specs.{last_number_cell, row_of, entry_cell, entry_stamp_cell, value_cell, stamp_cell, highest_of, permitted_by, applied_by, entry_at, value_at, stamp_at, logged, tabled, raised, is_quorum};
+ghost use Rattle.store.specs.{row_of, entry_cell, entry_stamp_cell, value_cell, stamp_cell, highest_of, permitted_by, applied_by, entry_at, value_at, stamp_at, logged, tabled, raised, is_quorum};
 
 use limits::{KEPT, OBJECTS, Object, Operation, Position, Stamp, Table, Value};
 
 // Where each thing lies in the store: specs/Lib.antt has the same places.
+// By hand: places in one array, and no struct, as callers lend the memory through the C interface, and `stamp_in`, `entry_cell` and the like of the specs say where each number lies.
 pub const LIVE: usize = 0;
 
 pub const ORDER: usize = 1;
@@ -53,32 +53,32 @@ pub struct Write {
 pub fn row(r: Table) -> usize
     ensures { (result ≡ row_of r) × (result < 8) }
 {
-    (r % 8) as usize
+    usize::from(r % 8)
 }
 
 fn value_cell(r: Table, o: Object) -> usize
     ensures { (result ≡ value_cell (row_of r) o) × (result < 8873) }
 {
-    VALUES + (row(r) * OBJECTS + (o % 1024) as usize)
+    VALUES + (row(r) * OBJECTS + o as usize % OBJECTS)
 }
 
 fn stamp_cell(r: Table, o: Object) -> usize
     ensures { (result ≡ stamp_cell (row_of r) o) × (result < 25256) }
 {
-    STAMPS + 2 * (row(r) * OBJECTS + (o % 1024) as usize)
+    STAMPS + 2 * (row(r) * OBJECTS + o as usize % OBJECTS)
 }
 
 fn entry_cell(field: usize, p: Position) -> usize
     requires { field < 3 }
     ensures { (result ≡ entry_cell field p) × (result < 425) }
 {
-    ENTRIES + field * KEPT + (p % 128) as usize
+    ENTRIES + field * KEPT + p as usize % KEPT
 }
 
 fn entry_stamp_cell(p: Position) -> usize
     ensures { (result ≡ entry_stamp_cell p) × (result < 680) }
 {
-    ENTRY_STAMPS + 2 * (p % 128) as usize
+    ENTRY_STAMPS + 2 * (p as usize % KEPT)
 }
 
 // Whether it is a quorum store.
@@ -88,56 +88,32 @@ pub fn is_quorum(cells: &[u32; CELLS]) -> bool
     cells[KIND] == 1
 }
 
-// ---- stamps, in two cells each
-
-fn stamp_in(cells: &[u32; CELLS], at: usize) -> Stamp
-    requires { at < last_number_cell }
-    ensures { result ≡ stamp_in cells.now at }
-{
-    let upper = cells[at];
-    let lower = cells[at + 1];
-    stamp::joined(upper, lower)
-}
-
-fn set_stamp(cells: &mut [u32; CELLS], at: usize, t: Stamp)
-    requires { at < last_number_cell }
-    ensures { cells.new ≡ set_stamp cells.old at t }
-{
-    let upper = stamp::upper(t);
-    let lower = stamp::lower(t);
-    cells[at] = upper;
-    cells[at + 1] = lower;
-}
-
 // ---- what each replica keeps
 
 pub fn highest(cells: &[u32; CELLS], r: Table) -> Stamp
     ensures { result ≡ highest_of cells.now r }
 {
-    let i = HIGHEST + 2 * row(r);
-    stamp_in(cells, i)
+    stamp::read(cells, HIGHEST + 2 * row(r))
 }
 
 // The switch number that it permits, as the cell has it.
 pub fn permitted(cells: &[u32; CELLS], r: Table) -> u32
     ensures { result ≡ permitted_by cells.now r }
 {
-    let i = PERMITS + row(r);
-    cells[i]
+    cells[PERMITS + row(r)]
 }
 
 pub fn applied(cells: &[u32; CELLS], r: Table) -> Position
     ensures { result ≡ applied_by cells.now r }
 {
-    let i = APPLIED + row(r);
-    cells[i]
+    cells[APPLIED + row(r)]
 }
 
 pub fn raise(cells: &mut [u32; CELLS], r: Table, highest: Stamp, applied: Position)
     ensures { cells.new ≡ raised cells.old r highest applied }
 {
     let i = row(r);
-    set_stamp(&mut *cells, HIGHEST + 2 * i, highest);
+    stamp::write(cells, HIGHEST + 2 * i, highest);
     cells[APPLIED + i] = applied;
 }
 
@@ -146,24 +122,20 @@ pub fn raise(cells: &mut [u32; CELLS], r: Table, highest: Stamp, applied: Positi
 pub fn read_value(cells: &[u32; CELLS], r: Table, o: Object) -> Value
     ensures { result ≡ value_at cells.now r o }
 {
-    let i = value_cell(r, o);
-    cells[i]
+    cells[value_cell(r, o)]
 }
 
 pub fn read_stamp(cells: &[u32; CELLS], r: Table, o: Object) -> Stamp
     ensures { result ≡ stamp_at cells.now r o }
 {
-    let i = stamp_cell(r, o);
-    stamp_in(cells, i)
+    stamp::read(cells, stamp_cell(r, o))
 }
 
 pub fn put_write(cells: &mut [u32; CELLS], r: Table, w: Write)
     ensures { cells.new ≡ tabled cells.old r w }
 {
-    let i = value_cell(r, w.object);
-    cells[i] = w.value;
-    let j = stamp_cell(r, w.object);
-    set_stamp(&mut *cells, j, w.stamp);
+    cells[value_cell(r, w.object)] = w.value;
+    stamp::write(cells, stamp_cell(r, w.object), w.stamp);
 }
 
 // ---- the log
@@ -172,28 +144,19 @@ pub fn put_write(cells: &mut [u32; CELLS], r: Table, w: Write)
 pub fn read_entry(cells: &[u32; CELLS], p: Position) -> Write
     ensures { result ≡ entry_at cells.now p }
 {
-    let a = entry_cell(0, p);
-    let b = entry_cell(1, p);
-    let c = entry_cell(2, p);
-    let d = entry_stamp_cell(p);
-    let stamp = stamp_in(cells, d);
     Write {
-        operation: cells[a],
-        object: cells[b],
-        value: cells[c],
-        stamp,
+        operation: cells[entry_cell(0, p)],
+        object: cells[entry_cell(1, p)],
+        value: cells[entry_cell(2, p)],
+        stamp: stamp::read(cells, entry_stamp_cell(p)),
     }
 }
 
 pub fn put_entry(cells: &mut [u32; CELLS], p: Position, w: Write)
     ensures { cells.new ≡ logged cells.old p w }
 {
-    let a = entry_cell(0, p);
-    cells[a] = w.operation;
-    let b = entry_cell(1, p);
-    cells[b] = w.object;
-    let c = entry_cell(2, p);
-    cells[c] = w.value;
-    let d = entry_stamp_cell(p);
-    set_stamp(&mut *cells, d, w.stamp);
+    cells[entry_cell(0, p)] = w.operation;
+    cells[entry_cell(1, p)] = w.object;
+    cells[entry_cell(2, p)] = w.value;
+    stamp::write(cells, entry_stamp_cell(p), w.stamp);
 }

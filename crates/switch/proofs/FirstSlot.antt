@@ -5,7 +5,9 @@ use mathlib.Core.Logic.{◌⊎◌, inl, inr}
 use Prim.Native.Nat.{ℕ, ◌<◌}
 use native.Mathlib.Omega.{arith}
 use Rattle.slots.specs.{first_slot, second_slot, third_slot}
+use Rattle.std.specs.Prelude.{Option, Some, None, MatchOption, IfSome}
 use Rattle.switch.specs.DirtySet.{first_of}
+use Rattle.switch.specs.Found.{IsSlot}
 
 -- one of the object's own slots
 abbrev pub Own : ℕ → ℕ → Type 0
@@ -92,3 +94,30 @@ first_at o t f n i (l) = go l.0 l.1 l.2
 
 pub first_none : {A : Type 0} (o : ℕ) (t : ℕ → Bool) (f : ℕ → A) (n : A) → NonePasses o t → first_of o t f n ≡ n
 first_none o t f n h = rw (h (first_slot o) (inl refl), h (second_slot o) (inr (inl refl)), h (third_slot o) (inr (inr refl)))
+
+-- ---- what the search of the code found, as the searches of the definitions say it
+
+picked : {A : Type 0} (a b c : Bool) (x y z : ℕ) (f : ℕ → A) (n : A) (r : Option ℕ) → r ≡ cond a (Some x) (cond b (Some y) (cond c (Some z) None)) →
+    MatchOption r (cond a (f x) (cond b (f y) (cond c (f z) n)) ≡ n) (λ i. cond a (f x) (cond b (f y) (cond c (f z) n)) ≡ f i)
+picked true b c x y z f n r e = rw e refl
+picked false true c x y z f n r e = rw e refl
+picked false false true x y z f n r e = rw e refl
+picked false false false x y z f n r e = rw e refl
+
+pub found_gives : {A : Type 0} (o : ℕ) (t : ℕ → Bool) (f : ℕ → A) (n : A) (r : Option ℕ) → r ≡ first_of o t Some None →
+    MatchOption r (first_of o t f n ≡ n) (λ i. first_of o t f n ≡ f i)
+found_gives o t f n r e = picked (t (first_slot o)) (t (second_slot o)) (t (third_slot o)) (first_slot o) (second_slot o) (third_slot o) f n r e
+
+pub found_slot : (o : ℕ) (t : ℕ → Bool) (r : Option ℕ) → r ≡ first_of o t Some None → IfSome r (λ i. i < 48) → IsSlot (first_of o t (λ i. i) 48) r
+found_slot o t (Some i) e h = (found_gives o t (λ i. i) 48 (Some i) e, h)
+found_slot o t None e h = found_gives o t (λ i. i) 48 None e
+
+-- the slot that was found, or where none was that of a second search
+pub found_or : {P : Type 0} (o : ℕ) (t : ℕ → Bool) (slot : ℕ) (r s : Option ℕ) → r ≡ first_of o t Some None → IfSome r (λ i. i < 48) → MatchOption r P (λ i. s ≡ Some i) →
+    (P → IsSlot slot s) → IsSlot (first_of o t (λ i. i) slot) s
+found_or o t slot (Some i) s e h q g = rw q (found_gives o t (λ i. i) slot (Some i) e, h)
+found_or o t slot None s e h q g = rw (found_gives o t (λ i. i) slot None e) (g q)
+
+pub found_none : (slot : ℕ) (r : Option ℕ) → IsSlot slot r → ((i : ℕ) → r ≡ Some i → ⊥) → slot ≡ 48
+found_none slot (Some i) h n = absurd (n i refl)
+found_none slot None h n = h

@@ -36,6 +36,7 @@ pub struct Switch {
 }
 
 // The switch after an object was to be marked, and the stamp that the write got: (0,0) where it is dropped.
+// By hand: the stamp (0,0) stands for none, and there is no Option, as `stamp_for` of specs/DirtySet.antt and the theorems about runs say of the write what this record holds.
 #[derive(Clone, Copy)]
 pub struct Marked {
     pub stamp: Stamp,
@@ -47,7 +48,7 @@ impl Switch {
         ensures { result ≡ switch_of (new_switch number) }
     {
         let mut cells = [0; CELLS];
-        cells[NUMBER] = number as u32;
+        cells[NUMBER] = u32::from(number);
         Switch { cells }
     }
 

@@ -10,6 +10,7 @@ use store::Write;
 use switch::cells;
 
 // A write with its stamp goes to the head; (0,0) stands for none, and the write is dropped.
+#[tactic(auto, unfolding(protocol::specs::Delivery::stamping))]
 fn stamp_on(
     store: &[u32; store::CELLS],
     at: usize,
@@ -32,6 +33,7 @@ fn stamp_on(
     decisions::pass_on(at, Message::StampedWrite(chain::head_number(store), w))
 }
 
+#[tactic(auto, unfolding(protocol::specs::Delivery::unstamped_write))]
 pub fn unstamped_write(
     switch: &mut [u32; switch::CELLS],
     store: &[u32; store::CELLS],
@@ -47,11 +49,11 @@ pub fn unstamped_write(
         return decisions::drop_packet(at);
     }
     let m = cells::load(switch).mark(x);
-    let next = m.state;
-    cells::store(&mut *switch, next);
+    cells::store(switch, m.state);
     stamp_on(store, at, o, x, v, m.stamp)
 }
 
+#[tactic(auto, using(lists::proofs::AllOf::all_one), unfolding(protocol::specs::Delivery::switch_read, protocol::specs::Reads::goes_directly, protocol::specs::Reads::is_unmarked))]
 pub fn switch_read(
     switch: &[u32; switch::CELLS],
     store: &[u32; store::CELLS],
@@ -63,13 +65,7 @@ pub fn switch_read(
     ensures { result ≡ switch_read switch.now store.now at choice o x }
 {
     let mark = cells::lookup(switch, x);
-    if !cells::is_direct(switch) {
-        return decisions::pass_on(
-            at,
-            Message::NormalRead(chain::read_replica_number(store), o, x, mark),
-        );
-    }
-    if mark == 0 {
+    if cells::is_direct(switch) && mark == 0 {
         let to = chain::choose(store, choice);
         return decisions::pass_on(
             at,
@@ -82,11 +78,11 @@ pub fn switch_read(
     )
 }
 
+#[tactic(auto, unfolding(protocol::specs::Delivery::completion))]
 pub fn complete(switch: &mut [u32; switch::CELLS], at: usize, x: Object, t: Stamp) -> Decision
     ensures { (result ≡ (completion switch.old at x t).decision)
         × (switch.new ≡ (completion switch.old at x t).switch) }
 {
-    let next = cells::load(switch).complete(x, t);
-    cells::store(&mut *switch, next);
+    cells::store(switch, cells::load(switch).complete(x, t));
     decisions::drop_packet(at)
 }

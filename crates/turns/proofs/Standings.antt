@@ -4,6 +4,7 @@ use mathlib.Core.Path.{◌≡◌, refl}
 use mathlib.Core.Bool.{Bool}
 use mathlib.Core.List.{List}
 use Prim.Native.Nat.{ℕ, ◌-◌}
+use Rattle.std.specs.Prelude.{Option, Some, None, Result, Ok, Err}
 use Rattle.waiting.specs.declared.Packet.{Packet}
 use Rattle.lists.proofs.Tests.{both}
 use Rattle.waiting.specs.Waiting.{WaitingList, waiting_list, none_wait}
@@ -12,7 +13,8 @@ use Rattle.protocol.specs.declared.Setup.TheVariants.{Missing}
 use Rattle.protocol.specs.Starts.{start_refused}
 use Rattle.protocol.specs.Steps.{Machine, machine, after, stepped_by, start_switch, start_store, start_opens, start_waiting}
 use Rattle.protocol.proofs.Refusals.{start_keeps}
-use Rattle.records.specs.declared.Next.{Next}
+use Rattle.records.specs.declared.Malformed.{Malformed}
+use Rattle.records.specs.declared.Record.{Record}
 use Rattle.turns.specs.declared.Run.{Run}
 use Rattle.turns.specs.declared.Ran.{Ran}
 use Rattle.turns.specs.Turns.{Printed, standing, started_with, continued, read_next, next_printed}
@@ -36,24 +38,24 @@ abbrev pub model_of : Run → List ℕ → List ℕ → List ℕ → List Packet
 model_of r switch store opens row = machine switch store opens (waiting_list row r.count)
 
 module _ (r : Run) (switch store opens : List ℕ) (row : List Packet) where
-  abbrev next : Next → Machine
+  abbrev next : Result (Option Record) Malformed → Machine
   next f = after (model_of r switch store opens row) (step_in f)
 
   -- what was read is f
-  abbrev Gives : Next → Ran → List ℕ → List ℕ → ℕ → Printed → Type 0
+  abbrev Gives : Result (Option Record) Malformed → Ran → List ℕ → List ℕ → ℕ → Printed → Type 0
   Gives f ran buffer out used p = Stands ran (next f).switch (next f).store (next f).opens (next f).waiting.packets buffer (one_turn (r.left - 1) out used p)
 
-  turn_gives : (f : Next) (ran : Ran) (buffer out : List ℕ) (used : ℕ) → Concludes ran buffer out used (concluded r f (stepped_by (model_of r switch store opens row) (step_in f)))
+  turn_gives : (f : Result (Option Record) Malformed) (ran : Ran) (buffer out : List ℕ) (used : ℕ) → Concludes ran buffer out used (concluded r f (stepped_by (model_of r switch store opens row) (step_in f)))
       → Gives f ran buffer out used (continued (stands_as r switch store opens row) f)
   unfolding stands_as
-  turn_gives (Next.Record x at) ran buffer out used d = record { stands = rw d.run refl; left = rw d.run refl; place = d.place; there = d.there }
-  turn_gives Next.End ran buffer out used d = record {
+  turn_gives (Ok (Some r)) ran buffer out used d = record { stands = rw d.run refl; left = rw d.run refl; place = d.place; there = d.there }
+  turn_gives (Ok None) ran buffer out used d = record {
     stands = rw (d.run, start_keeps (model_of r switch store opens row) Missing) refl;
     left = rw d.run refl;
     place = d.place;
     there = d.there;
   }
-  turn_gives Next.Malformed ran buffer out used d = record {
+  turn_gives (Err e) ran buffer out used d = record {
     stands = rw (d.run, start_keeps (model_of r switch store opens row) Missing) refl;
     left = rw d.run refl;
     place = d.place;

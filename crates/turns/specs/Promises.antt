@@ -1,5 +1,5 @@
 -- What the contracts of the functions cite, over specs/Turns.antt: turns that go line after line into a lent buffer, and the code's structs.
-use Rattle.std.specs.Prelude.{◌≡◌, Bool, true, false, cond, List, [], ℕ, zero, suc, ◌+◌, ◌-◌, min, leb, ltb, length}
+use Rattle.std.specs.Prelude.{◌≡◌, Bool, true, false, cond, List, [], ℕ, zero, suc, ◌+◌, ◌-◌, min, leb, ltb, length, Option, Some, None, Result, Ok, Err}
 use Rattle.waiting.specs.declared.Packet.{Packet}
 use Rattle.waiting.specs.Waiting.{waiting_list, held_in}
 use Rattle.protocol.specs.declared.Setup.TheVariants.{Missing}
@@ -7,7 +7,8 @@ use Rattle.protocol.specs.declared.Step.{Step}
 use Rattle.protocol.specs.declared.Step.TheVariants.{Start}
 use Rattle.protocol.specs.declared.Stepped.{Stepped}
 use Rattle.protocol.specs.Steps.{machine}
-use Rattle.records.specs.declared.Next.{Next}
+use Rattle.records.specs.declared.Malformed.{Malformed}
+use Rattle.records.specs.declared.Record.{Record}
 use Rattle.records.specs.Records.{next_refusal}
 use Rattle.line_lengths.specs.Lines.{line_of, no_line}
 use Rattle.lines.specs.Text.{put_in}
@@ -67,12 +68,12 @@ abbrev pub one_turn : ℕ → List ℕ → ℕ → Printed → Turned
 one_turn k out used p = turned_to p.then k (put_in out used p.line) (place_after used (length p.line))
 
 -- what is read, and its step; where none is read, one that the machine refuses
-abbrev pub step_in : Next → Step
-step_in (Next.Record x at) = x
-step_in Next.End = Start Missing
-step_in Next.Malformed = Start Missing
+abbrev pub step_in : Result (Option Record) Malformed → Step
+step_in (Ok (Some r)) = r.step
+step_in (Ok None) = Start Missing
+step_in (Err e) = Start Missing
 
-abbrev pub turn_of : Next → Turn
+abbrev pub turn_of : Result (Option Record) Malformed → Turn
 turn_of f = record { found = f; step = step_in f }
 
 -- the run after a step, and its line, from what was read and what the step gave
@@ -94,7 +95,7 @@ going_on r at t = record {
   line = line_of r.number t.answer (held_in t.count) t.marks;
 }
 
-abbrev pub concluded : Run → Next → Stepped → Concluded
-concluded r (Next.Record x at) t = going_on r at t
-concluded r Next.End t = record { run = over_run r; line = [] }
-concluded r Next.Malformed t = record { run = over_run r; line = no_line r.number (next_refusal Next.Malformed) }
+abbrev pub concluded : Run → Result (Option Record) Malformed → Stepped → Concluded
+concluded r (Ok (Some d)) t = going_on r d.end t
+concluded r (Ok None) t = record { run = over_run r; line = [] }
+concluded r (Err e) t = record { run = over_run r; line = no_line r.number (next_refusal (Err e)) }

@@ -1,5 +1,5 @@
 -- Document 01, 'What the run program prints': the run of one input, a line for each record.
-use Rattle.std.specs.Prelude.{Bool, true, false, cond, List, [], ℕ, ◌+◌, eqb, ltb, length}
+use Rattle.std.specs.Prelude.{Bool, true, false, cond, List, [], ℕ, ◌+◌, eqb, ltb, length, Option, Some, None, Result, Ok, Err}
 use Rattle.limits.specs as limits
 use Rattle.switch.specs.Numbers.{marks_in}
 use Rattle.waiting.specs.Waiting.{held}
@@ -9,7 +9,8 @@ use Rattle.protocol.specs.declared.Step.{Step}
 use Rattle.protocol.specs.Answers.{refusal_number}
 use Rattle.protocol.specs.Starts.{setup_of, start_refused, start_answer}
 use Rattle.protocol.specs.Steps.{Machine, answer_to, after, after_start}
-use Rattle.records.specs.declared.Next.{Next}
+use Rattle.records.specs.declared.Malformed.{Malformed}
+use Rattle.records.specs.declared.Record.{Record}
 use Rattle.records.specs.Records.{next_at, next_refusal}
 use Rattle.line_lengths.specs.Lines.{line_of, no_line}
 
@@ -42,10 +43,10 @@ unfoldable pub started_with : Machine → Setup → ℕ → Printed
 started_with m b at = prints (standing (after_start b m) at 2 (start_refused b)) (line_of 1 (start_answer b) 0 0)
 
 -- 'Empty input prints only `1 no 1`', and so does any input that begins with no start
-abbrev pub first_read : Machine → Next → Printed
-first_read m (Next.Record x at) = started_with m (setup_of x) at
-first_read m Next.End = stopped m (no_line 1 (refusal_number Format))
-first_read m Next.Malformed = stopped m (no_line 1 (next_refusal Next.Malformed))
+abbrev pub first_read : Machine → Result (Option Record) Malformed → Printed
+first_read m (Ok (Some r)) = started_with m (setup_of r.step) r.end
+first_read m (Ok None) = stopped m (no_line 1 (refusal_number Format))
+first_read m (Err e) = stopped m (no_line 1 (next_refusal (Err e)))
 
 -- '14 prints only `0 no 14`'
 unfoldable pub first_printed : Machine → List ℕ → Printed
@@ -66,14 +67,14 @@ abbrev pub over_at : Standing → Standing
 over_at u = standing u.model u.at u.number true
 
 -- 'One line a record'; at the end of the input nothing more is printed; 'After 1 or 2 it ends'
-abbrev pub continued : Standing → Next → Printed
-continued u (Next.Record x at) = prints (standing (after u.model x) at (next_number u.number) false) (line_after u.number u.model x)
-continued u Next.End = prints (over_at u) []
-continued u Next.Malformed = prints (over_at u) (no_line u.number (next_refusal Next.Malformed))
+abbrev pub continued : Standing → Result (Option Record) Malformed → Printed
+continued u (Ok (Some r)) = prints (standing (after u.model r.step) r.end (next_number u.number) false) (line_after u.number u.model r.step)
+continued u (Ok None) = prints (over_at u) []
+continued u (Err e) = prints (over_at u) (no_line u.number (next_refusal (Err e)))
 
 -- what is read next: nothing once the run is over
-unfoldable pub read_next : List ℕ → Bool → ℕ → Next
-read_next input over at = cond over Next.End (next_at input at)
+unfoldable pub read_next : List ℕ → Bool → ℕ → Result (Option Record) Malformed
+read_next input over at = cond over (Ok None) (next_at input at)
 
 unfoldable pub next_printed : List ℕ → Standing → Printed
 next_printed input u = continued u (read_next input u.over u.at)

@@ -12,15 +12,17 @@ ghost use Rattle.lines.specs.Text.{put_in};
 ghost use Rattle.turns.specs.Turns.{next_number, read_next, stopped, started_with, first_printed};
 ghost use Rattle.turns.specs.Promises.{place_after, goes_on, Stands, one_turn, Concludes, turn_of, going_on, over_run, concluded};
 
-use limits::{INPUT, LAST_RECORD_NUMBER, RecordNumber};
+use limits::{INPUT, RecordNumber};
 use protocol::{Refusal, Setup, Step, Stepped, answers, setups};
-use records::Next;
+use records::{Malformed, Record};
 use waiting::Packet;
 
-pub const LAST_PLACE: usize = 18446744073709551615;
+// The last place of 64 bits.
+pub const LAST_PLACE: usize = usize::MAX;
 
 // How a run stands between two records; the machine is lent, and `count` of its packets wait. `at` is where the next record begins, `number` its number, and
 // `left` bounds the records that follow.
+// By hand: `over` is a flag, since `Standing` in specs/Turns.antt, over which `run_ends` is proved, has it beside the position and the number, which a run that is over keeps.
 #[derive(Clone, Copy)]
 pub struct Run {
     pub count: usize,
@@ -40,66 +42,39 @@ pub struct Ran {
 // What is read, and the step that the machine is handed.
 #[derive(Clone, Copy)]
 pub struct Turn {
-    pub found: Next,
+    pub found: Result<Option<Record>, Malformed>,
     pub step: Step,
 }
 
-// ---- numbers
-
-fn one_fewer(turns: usize) -> usize
-    ensures { result ≡ turns - 1 }
-{
-    if turns == 0 {
-        return 0;
-    }
-    turns - 1
-}
-
+// The number of the record after this one; the last number stays.
 fn next_number(k: RecordNumber) -> RecordNumber
     ensures { result ≡ next_number k }
 {
-    if k == LAST_RECORD_NUMBER {
-        return k;
-    }
-    k + 1
-}
-
-fn place_after(used: usize, n: usize) -> usize
-    ensures { result ≡ place_after used n }
-{
-    if LAST_PLACE - used < n {
-        return LAST_PLACE;
-    }
-    used + n
+    k.saturating_add(1)
 }
 
 // ---- one record
 
 // What is read next: nothing once the run is over.
-fn read_next(input: &[u8], over: bool, at: usize) -> Next
+fn read_next(input: &[u8], over: bool, at: usize) -> Result<Option<Record>, Malformed>
     ensures { result ≡ read_next input.now over at }
 {
     if over {
-        return Next::End;
+        Ok(None)
+    } else {
+        reader::read_at(input, at)
     }
-    reader::read_at(input, at)
 }
 
 // Where no step is read, the machine is handed one that it refuses, so that it changes nothing.
-fn turn_of(found: Next) -> Turn
+fn turn_of(found: Result<Option<Record>, Malformed>) -> Turn
     ensures { result ≡ turn_of found }
 {
-    match found {
-        Next::Record(x, at) => Turn { found, step: x },
-        Next::End => Turn {
-            found,
-            step: Step::Start(Setup::Missing),
-        },
-        Next::Malformed => Turn {
-            found,
-            step: Step::Start(Setup::Missing),
-        },
-    }
+    let step = match found {
+        Ok(Some(record)) => record.step,
+        _ => Step::Start(Setup::Missing),
+    };
+    Turn { found, step }
 }
 
 pub fn look(input: &[u8], over: bool, at: usize) -> Turn
@@ -115,17 +90,17 @@ fn go_on(run: Run, at: usize, done: Stepped, out: &mut [u8], used: usize) -> Ran
     let count = done.count;
     let answer = done.answer;
     let waiting = waiting::held(count) as u32;
-    let n = lines::put_answer(&mut *out, used, run.number, answer, waiting, done.marks);
+    let n = lines::put_answer(out, used, run.number, answer, waiting, done.marks);
     let run = Run {
         count,
         at,
         number: next_number(run.number),
         over: false,
-        left: one_fewer(run.left),
+        left: run.left.saturating_sub(1),
     };
     Ran {
         run,
-        used: place_after(used, n),
+        used: used.saturating_add(n),
     }
 }
 
@@ -134,11 +109,9 @@ fn end(run: Run) -> Run
     ensures { result ≡ over_run run }
 {
     Run {
-        count: run.count,
-        at: run.at,
-        number: run.number,
         over: true,
-        left: one_fewer(run.left),
+        left: run.left.saturating_sub(1),
+        ..run
     }
 }
 
@@ -147,27 +120,28 @@ fn put_malformed(out: &mut [u8], used: usize, number: RecordNumber) -> usize
     ensures { (result ≡ place_after used (length (no_line number (refusal_number Format))))
         × (out.new ≡ put_in out.old used (no_line number (refusal_number Format))) }
 {
-    let n = lines::put_refusal(
-        &mut *out,
-        used,
-        number,
-        answers::refusal_number(Refusal::Format),
-    );
-    place_after(used, n)
+    let n = lines::put_refusal(out, used, number, answers::refusal_number(Refusal::Format));
+    used.saturating_add(n)
 }
 
 // The run after what was read, whose step gave `done`.
-pub fn conclude(run: Run, found: Next, done: Stepped, out: &mut [u8], used: usize) -> Ran
+pub fn conclude(
+    run: Run,
+    found: Result<Option<Record>, Malformed>,
+    done: Stepped,
+    out: &mut [u8],
+    used: usize,
+) -> Ran
     ensures { Concludes result out.new out.old used (concluded run found done) }
 {
     match found {
-        Next::Record(x, at) => go_on(run, at, done, &mut *out, used),
-        Next::End => Ran {
+        Ok(Some(record)) => go_on(run, record.end, done, out, used),
+        Ok(None) => Ran {
             run: end(run),
             used,
         },
-        Next::Malformed => {
-            let used = put_malformed(&mut *out, used, run.number);
+        Err(_) => {
+            let used = put_malformed(out, used, run.number);
             Ran {
                 run: end(run),
                 used,
@@ -183,7 +157,7 @@ fn stop(out: &mut [u8], number: RecordNumber, why: Refusal, turns: usize) -> Ran
     ensures { (switch store opens : List ℕ) (row : List Packet) → Stands result switch store opens row out.new
         (one_turn turns out.old 0 (stopped (machine switch store opens (none_wait row)) (no_line number (refusal_number why)))) }
 {
-    let n = lines::put_refusal(&mut *out, 0, number, answers::refusal_number(why));
+    let n = lines::put_refusal(out, 0, number, answers::refusal_number(why));
     let run = Run {
         count: 0,
         at: 0,
@@ -191,12 +165,10 @@ fn stop(out: &mut [u8], number: RecordNumber, why: Refusal, turns: usize) -> Ran
         over: true,
         left: turns,
     };
-    Ran {
-        run,
-        used: place_after(0, n),
-    }
+    Ran { run, used: n }
 }
 
+// By hand: the three lent arrays one by one, as crates/replay says, and the buffer with a place beside: the libraries have no heap.
 // The run after a start; the next record is at `at`, and at most so many turns follow.
 fn start_with(
     b: Setup,
@@ -210,9 +182,9 @@ fn start_with(
     ensures { (row : List Packet) → Stands result switch.new store.new opens.new row out.new
         (one_turn turns out.old 0 (started_with (machine switch.old store.old opens.old (none_wait row)) b at)) }
 {
-    let answer = machine::start(b, &mut *switch, &mut *store, &mut *opens);
+    let answer = machine::start(b, switch, store, opens);
     let over = setups::is_refused(b);
-    let bytes = lines::put_answer(&mut *out, 0, 1, answer, 0, 0);
+    let bytes = lines::put_answer(out, 0, 1, answer, 0, 0);
     let run = Run {
         count: 0,
         at,
@@ -220,10 +192,7 @@ fn start_with(
         over,
         left: turns,
     };
-    Ran {
-        run,
-        used: place_after(0, bytes),
-    }
+    Ran { run, used: bytes }
 }
 
 // The first record of an input: a start, or what is refused in its place. Its line goes to the buffer's start.
@@ -239,20 +208,19 @@ pub fn first(
 {
     let turns = input.len();
     if INPUT < turns {
-        return stop(&mut *out, 0, Refusal::InputTooLong, turns);
+        return stop(out, 0, Refusal::InputTooLong, turns);
     }
     match reader::read_at(input, 0) {
-        Next::Record(x, at) => start_with(
-            setups::setup_of(x),
-            at,
+        Ok(Some(record)) => start_with(
+            setups::setup_of(record.step),
+            record.end,
             turns,
-            &mut *switch,
-            &mut *store,
-            &mut *opens,
-            &mut *out,
+            switch,
+            store,
+            opens,
+            out,
         ),
-        Next::End => stop(&mut *out, 1, Refusal::Format, turns),
-        Next::Malformed => stop(&mut *out, 1, Refusal::Format, turns),
+        _ => stop(out, 1, Refusal::Format, turns),
     }
 }
 
@@ -260,11 +228,5 @@ pub fn first(
 pub fn goes_on(over: bool, left: usize, used: usize, stop: usize) -> bool
     ensures { result ≡ goes_on over left used stop }
 {
-    if over {
-        return false;
-    }
-    if 0 < left {
-        return used <= stop;
-    }
-    false
+    !over && 0 < left && used <= stop
 }

@@ -2,7 +2,7 @@
 use mathlib.Core.Path.{◌≡◌, refl, sym, ap, ◌∙◌}
 use mathlib.Core.Bool.{Bool, true, false, cond}
 use mathlib.Core.List.{List, [], ◌∷◌}
-use Prim.Native.Nat.{ℕ, zero, suc, ◌+◌, ◌-◌, ◌≤◌, ◌<◌}
+use Prim.Native.Nat.{ℕ, zero, suc, ◌+◌, ◌-◌, ◌≤◌, ◌<◌, min}
 use native.Mathlib.Nat.{not-suc-le-zero, le_of_suc-le-suc}
 use native.Mathlib.Omega.{arith}
 use lib.Dec.{leb, ltb}
@@ -65,16 +65,20 @@ fits_places length left add = go (ltb length limits.waiting) refl
     go true a e = absurd (let z : ◌≡◌ {A = ℕ} 0 1 = cc in omega arith)
     go false a e = (leb-true (left + add) limits.waiting e, ltb-false length limits.waiting a)
 
--- as the code tests it
-pub fits_less : (left add : ℕ) → limits.waiting < left → leb (left + add) limits.waiting ≡ false
-fits_less left add h = lt-leb (left + add) limits.waiting (omega arith)
-
-pub fits_more : (left add : ℕ) → left ≤ limits.waiting → leb add (limits.waiting - left) ≡ leb (left + add) limits.waiting
-fits_more left add h = go (leb add (limits.waiting - left)) refl
+-- as the code tests it: a sum that goes no higher than the greatest number of 64 bits
+pub fits_capped : (sum capped : ℕ) → capped ≡ min sum 18446744073709551615 → leb capped limits.waiting ≡ leb sum limits.waiting
+fits_capped sum capped h = go (leb sum limits.waiting) refl
   where
-    go : (t : Bool) → leb add (limits.waiting - left) ≡ t → leb add (limits.waiting - left) ≡ leb (left + add) limits.waiting
-    go true e = e ∙ sym (le-leb (left + add) limits.waiting (omega (arith, leb-true add (limits.waiting - left) e)))
-    go false e = e ∙ sym (lt-leb (left + add) limits.waiting (omega (arith, leb-false add (limits.waiting - left) e)))
+    go : (t : Bool) → leb sum limits.waiting ≡ t → leb capped limits.waiting ≡ leb sum limits.waiting
+    go true e = le-leb capped limits.waiting (omega (arith, leb-true sum limits.waiting e)) ∙ sym e
+    go false e = lt-leb capped limits.waiting (omega (arith, leb-false sum limits.waiting e)) ∙ sym e
+
+-- as the code chooses a place
+pub chosen : (k n a b r : ℕ) → k ≤ n → r ≡ a → r ≡ cond (leb k n) a b
+chosen k n a b r h e = rw (le-leb k n h) e
+
+pub not_chosen : (k n a b r : ℕ) → n < k → r ≡ b → r ≡ cond (leb k n) a b
+not_chosen k n a b r h e = rw (lt-leb k n h) e
 
 -- what moves lies in the row
 planned_within : (length count from last left add : ℕ) → from ≤ last → last ≤ limits.waiting - 1 →

@@ -2,7 +2,7 @@
 // decides a step.
 #![tactic(auto)]
 
-ghost use Rattle.std.specs.Prelude.{◌≡◌, cond, ◌-◌, ◌≤◌, length, set};
+ghost use Rattle.std.specs.Prelude.{◌≡◌, ◌-◌, ◌≤◌, length, set};
 ghost use Rattle.lists.specs.{moves};
 ghost use Rattle.waiting.specs.Waiting.{blank, waiting_list, held_in, takes_out, fits, look_at, edited};
 ghost use Rattle.waiting.specs.Plans.{still, planned, plan_of};
@@ -11,7 +11,7 @@ use limits::{Number, Object, Operation, Replica, Stamp, Value, WAITING};
 
 // A packet of any kind: the machine above says which kinds there are and which fields each uses. 24 bytes, no padding.
 #[repr(C)]
-#[derive(Clone, Copy)]
+#[derive(Clone, Copy, Default)]
 pub struct Packet {
     pub kind: u8,
     pub replica: Replica,
@@ -23,6 +23,7 @@ pub struct Packet {
 }
 
 // What a step does to the list: the packet at `at` goes out if `take` says so, then `add` of the two packets come to the end.
+// By hand: `take` beside `at` and `add` beside the packets, and no Options, as `takes_out`, `adding` and `edited` of specs/Waiting.antt and the theorems of the crates above read these fields.
 #[derive(Clone, Copy)]
 pub struct Edit {
     pub take: bool,
@@ -48,56 +49,31 @@ impl Packet {
     pub fn blank() -> Packet
         ensures { result ≡ blank }
     {
-        Packet {
-            kind: 0,
-            replica: 0,
-            number: 0,
-            operation: 0,
-            stamp: 0,
-            object: 0,
-            value: 0,
-        }
+        Packet::default()
     }
 }
 
 // ---- what an edit does
+// By hand: a slice with a count beside it, and no list type, as callers lend the memory: a rule of the project (fixed memory, no heap).
 
 // How many packets wait.
 pub fn held(count: usize) -> usize
     ensures { (result ≡ held_in count) × (result ≤ 64) }
 {
-    if WAITING < count {
-        return WAITING;
-    }
-    count
-}
-
-fn choose(t: bool, a: usize, b: usize) -> usize
-    ensures { result ≡ cond t a b }
-{
-    if t { a } else { b }
+    count.min(WAITING)
 }
 
 fn takes_out(count: usize, e: Edit) -> bool
     ensures { result ≡ takes_out count e }
 {
-    if e.take {
-        return e.at < held(count);
-    }
-    false
+    e.take && e.at < held(count)
 }
 
 // Whether 64 places are lent and no more than 64 packets wait once `add` have come to the `left` that are left.
 fn fits(length: usize, left: usize, add: usize) -> bool
     ensures { result ≡ fits length left add }
 {
-    if length < WAITING {
-        return false;
-    }
-    if WAITING < left {
-        return false;
-    }
-    add <= WAITING - left
+    WAITING <= length && left.saturating_add(add) <= WAITING
 }
 
 // Nothing moves and nothing comes: at the end of the slice nothing is put.
@@ -123,8 +99,8 @@ fn plan_from(length: usize, count: usize, from: usize, last: usize, left: usize,
     Plan {
         from,
         last,
-        place: choose(1 <= add, left, length),
-        next: choose(2 <= add, left + 1, length),
+        place: if 1 <= add { left } else { length },
+        next: if 2 <= add { left + 1 } else { length },
         count: left + add,
     }
 }
@@ -134,9 +110,10 @@ fn plan_of(length: usize, count: usize, e: Edit) -> Plan
 {
     if takes_out(count, e) {
         let left = held(count) - 1;
-        return plan_from(length, count, e.at, left, left, e.add);
+        plan_from(length, count, e.at, left, left, e.add)
+    } else {
+        plan_from(length, count, 0, 0, count, e.add)
     }
-    plan_from(length, count, 0, 0, count, e.add)
 }
 
 // ---- the lent slice
@@ -145,10 +122,7 @@ fn plan_of(length: usize, count: usize, e: Edit) -> Plan
 pub fn look(packets: &mut [Packet], at: usize) -> Packet
     ensures { (result ≡ look_at packets.old at) × (packets.new ≡ packets.old) }
 {
-    if at < packets.len() {
-        return packets[at];
-    }
-    Packet::blank()
+    packets.get(at).copied().unwrap_or(Packet::blank())
 }
 
 // A place takes a packet; past the end of the slice there is none.
@@ -168,6 +142,7 @@ fn close_up(packets: &mut [Packet], from: usize, last: usize)
     if last <= from {
         return;
     }
+    // By hand: `for i in from..last` moves one packet a turn and takes 0.4 instructions more for an edit, `(from..last - 1).step_by(2)` 15 more; std's `copy_within` moves one a turn too.
     let mut i = from;
     while i + 2 <= last {
         packets[i] = packets[i + 1];

@@ -8,6 +8,7 @@ use native.Mathlib.Omega.{arith}
 use lib.Dec.{eqb}
 use lib.ListN.{length}
 use borrow.Author.Tests.{eq-eqb, ne_eqb, le-ltb}
+use Rattle.std.specs.Prelude.{Result, Ok}
 use Rattle.switch.specs.Numbers.{marks_in}
 use Rattle.waiting.specs.Waiting.{held_in, held}
 use Rattle.contexts.specs.declared.Context.{Context}
@@ -23,8 +24,9 @@ use Rattle.protocol.specs.Answers.{refusal_number}
 use Rattle.protocol.specs.Starts.{setup_of, start_refused, start_refusal, start_answer}
 use Rattle.protocol.specs.Steps.{Machine, answer_to, after, stepped_by}
 use Rattle.protocol.proofs.Refusals.{start_cases}
-use Rattle.records.specs.declared.Found.{Found}
-use Rattle.records.specs.Records.{record_at}
+use Rattle.records.specs.declared.Malformed.{Malformed}
+use Rattle.records.specs.declared.Record.{Record}
+use Rattle.records.specs.Records.{read_to, record_at}
 use Rattle.line_lengths.specs.Lines.{line_of}
 use Rattle.sessions.specs.declared.Session.{Session}
 use Rattle.sessions.specs.{refusal_in, operation_in, values_in, freshness_in, whole_step, asked_by, start_asked, session_started, marks_after, session_after}
@@ -73,12 +75,12 @@ line_of_lem k (FinishedContext o v) waiting before marks h d =
 line_of_lem k (Refused r) waiting before marks h d = rw (numbered r)
 
 -- the step of a record that fills the lent bytes
-asked_whole : (bytes : List ℕ) (x : Step) → record_at bytes 0 ≡ Found.Record x (length bytes) → asked_by bytes ≡ x
+asked_whole : (bytes : List ℕ) (x : Step) → record_at bytes 0 ≡ Ok (read_to x (length bytes)) → asked_by bytes ≡ x
 unfolding asked_by
-asked_whole bytes x e = ap (λ (f : Found). whole_step f (length bytes)) e ∙ rw (eq-eqb (length bytes) (length bytes) refl)
+asked_whole bytes x e = ap (λ (f : Result Record Malformed). whole_step f (length bytes)) e ∙ rw (eq-eqb (length bytes) (length bytes) refl)
 
 -- after a step: the line of crates/runs/specs/Runs.antt, `line_after`
-pub step_line : (k before : ℕ) (m : Machine) (bytes : List ℕ) (x : Step) → Counted m.opens → record_at bytes 0 ≡ Found.Record x (length bytes) →
+pub step_line : (k before : ℕ) (m : Machine) (bytes : List ℕ) (x : Step) → Counted m.opens → record_at bytes 0 ≡ Ok (read_to x (length bytes)) →
     line_in k (session_after before (stepped_by m (asked_by bytes))) ≡ line_of k (answer_to m x) (held (after m x).waiting) (marks_in (after m x).switch)
 unfolding session_after
 step_line k before m bytes x c e =
@@ -94,7 +96,7 @@ setup_line k b u = go (start_cases b)
     go (inl e) = rw (e.1, numbered (start_refusal b))
     go (inr e) = rw (e.0, e.1)
 
-pub start_line : (k : ℕ) (bytes : List ℕ) (b : Setup) (u : Session) → record_at bytes 0 ≡ Found.Record (Start b) (length bytes) →
+pub start_line : (k : ℕ) (bytes : List ℕ) (b : Setup) (u : Session) → record_at bytes 0 ≡ Ok (read_to (Start b) (length bytes)) →
     line_in k (session_started (start_asked bytes) u) ≡ line_of k (start_answer b) 0 0
 unfolding start_asked
 start_line k bytes b u e = ap (λ (y : Step). line_in k (session_started (setup_of y) u)) (asked_whole bytes (Start b) e) ∙ setup_line k b u

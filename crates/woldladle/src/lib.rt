@@ -1,5 +1,6 @@
 // The model for callers in C and Rust: a session and lent memory, records and lines. bindings/c/woldladle.h says where each thing lies.
 #![tactic(auto)]
+// By hand: 0 for none, a refusal by its number, the lent cells one by one and a count beside the packets, as the C interface has them.
 
 ghost use Rattle.std.specs.Prelude.{◌≡◌};
 ghost use Rattle.session_lines.specs.{line_for, put_bytes};
@@ -73,7 +74,7 @@ pub extern "C" fn woldladle_line(
         × (out.new ≡ put_in out.old 0 (line_for number refusal operation count values.now freshness waiting marks)) }
 {
     session_lines::line(
-        number, refusal, operation, count, values, freshness, waiting, marks, &mut *out,
+        number, refusal, operation, count, values, freshness, waiting, marks, out,
     )
 }
 
@@ -83,7 +84,7 @@ pub extern "C" fn woldladle_line(
 pub extern "C" fn woldladle_write_record(tag: u8, first: u32, second: u32, out: &mut [u8]) -> u8
     ensures { (result ≡ record_refusal out.old tag first second) × (out.new ≡ record_buffer out.old tag first second) }
 {
-    numbered_records::write_record(tag, first, second, &mut *out)
+    numbered_records::refusal_in(numbered_records::write_record(tag, first, second, out))
 }
 
 // Writes the record of a read of a whole context at the start of the buffer. 0, or refusal 1 where there are not 2 to 8 objects, or 15 where the buffer is too short; a
@@ -92,7 +93,7 @@ pub extern "C" fn woldladle_write_record(tag: u8, first: u32, second: u32, out: 
 pub extern "C" fn woldladle_write_context(objects: &[u16], out: &mut [u8]) -> u8
     ensures { (result ≡ context_refusal out.old objects.now) × (out.new ≡ context_buffer out.old objects.now) }
 {
-    numbered_records::write_context(objects, &mut *out)
+    numbered_records::refusal_in(numbered_records::write_context(objects, out))
 }
 
 // How many bytes the record of a tag has, 0 for an unknown tag and for that of a read of a whole context.
@@ -124,7 +125,7 @@ pub extern "C" fn woldladle_stamp(store: &[u32; store::CELLS], replica: u8, obje
 pub extern "C" fn woldladle_chain(store: &[u32; store::CELLS], out: &mut [u8; 10]) -> u8
     ensures { (result ≡ live_count store.now) × (out.new ≡ chain_of store.now) }
 {
-    replica_values::chain(store, &mut *out)
+    replica_values::chain(store, out)
 }
 
 // Of a live replica of a quorum store: how many entries of the leader's log it has logged, how many it has executed, and how many the leader knows it to have logged. 1, or 0 where the store is
@@ -137,5 +138,5 @@ pub extern "C" fn woldladle_positions(
 ) -> u8
     ensures { (result ≡ positions_told store.now replica) × (out.new ≡ positions_in store.now replica out.old) }
 {
-    replica_values::positions(store, replica, &mut *out)
+    replica_values::positions(store, replica, out)
 }

@@ -1,4 +1,5 @@
 // Whole runs for callers in C and Rust: bindings/c/woldladle.h.
+// By hand: the C interface has a length or minus a refusal in one signed number, where the crates below have a Result.
 #![tactic(auto)]
 
 ghost use Rattle.std.specs.Prelude.{◌≡◌, length};
@@ -20,7 +21,10 @@ pub extern "C" fn woldladle_run(input: &[u8], out: &mut [u8]) -> usize
 pub extern "C" fn woldladle_draw(seed: u32, n: u64, steps: u64, out: &mut [u8]) -> i64
     ensures { (result ≡ draw_answer (length out.old) seed n steps) × (out.new ≡ draw_buffer out.old seed n steps) }
 {
-    draws::run(seed, n, steps, &mut *out)
+    match draws::run(seed, n, steps, out) {
+        Ok(size) => size as i64,
+        Err(error) => -i64::from(error.number()),
+    }
 }
 
 // A shorter run whose last record is refused with the same number, at the start of the buffer; every byte beyond is as it was. How many bytes it has, or minus the refusal, which
@@ -29,5 +33,8 @@ pub extern "C" fn woldladle_draw(seed: u32, n: u64, steps: u64, out: &mut [u8]) 
 pub extern "C" fn woldladle_shorten(input: &[u8], out: &mut [u8]) -> i64
     ensures { (result ≡ shorten_answer (length out.old) input.now) × (out.new ≡ shorten_buffer out.old input.now) }
 {
-    shortening::shorten(input, &mut *out)
+    match shortening::shorten(input, out) {
+        Ok(length) => length as i64,
+        Err(refusal) => -i64::from(refusal.number()),
+    }
 }

@@ -5,6 +5,3 @@ use Rattle.agreement.proofs.cuts_agree_with_room.Given as goal
 
 abbrev pub invariant-loop-cut : goal.invariant-loop-cut
 invariant-loop-cut l = (l.cut ≤ length l.input + 1) × (l.at ≡ length (outputs_to l.cut l.input)) × (stands_in l.expected 0 (outputs_to l.cut l.input) ≡ true)
-
-abbrev pub decreases-loop-cut : goal.decreases-loop-cut
-decreases-loop-cut l = length l.input + 1 - l.cut

@@ -4,8 +4,8 @@ use Rattle.agreement.proofs.same.Goals as goal
 
 pub returns-then-a-b : goal.returns-then-a-b
 unfolding same_bytes
-returns-then-a-b c = simp (ne_eqb _ _ c.if-a-b.true)
+returns-then-a-b c = simp (eq-eqb _ _ c.if-a-b.true) c.stands_at.ensures
 
-pub returns : goal.returns
+pub returns-else-a-b : goal.returns-else-a-b
 unfolding same_bytes
-returns c = simp (eq-eqb _ _ c.if-a-b.false) c.stands_at.ensures
+returns-else-a-b c = simp (ne_eqb _ _ c.if-a-b.false)

@@ -5,6 +5,3 @@ use Rattle.agreement.proofs.stands_at.Given as goal
 
 abbrev pub invariant-loop-i : goal.invariant-loop-i
 invariant-loop-i l = (l.i ≤ length l.part) × (l.at + length l.part ≤ length l.s) × (agree_to l.s l.at l.part l.i ≡ true)
-
-abbrev pub decreases-loop-i : goal.decreases-loop-i
-decreases-loop-i l = length l.part - l.i

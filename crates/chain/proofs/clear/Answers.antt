@@ -3,4 +3,4 @@ use Rattle.chain.proofs.clear.Goals as goal
 
 pub returns : goal.returns
 unfolding empty_store empty_cells
-returns c = simp c.number.ensures
+returns c = simp (c.number.ensures, c.from.ensures, c.from-2.ensures)

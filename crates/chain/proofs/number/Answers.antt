@@ -2,7 +2,6 @@ use mathlib.Core.Path.{◌≡◌, refl, sym, ap, ◌∙◌}
 use mathlib.Core.List.{List}
 use Prim.Native.Nat.{ℕ, ◌+◌, ◌*◌}
 use native.Mathlib.Numerals.{add-one}
-use native.Mathlib.Omega.{arith}
 use lib.ListN.{set}
 use Rattle.store.specs.{permit_cell}
 use Rattle.chain.specs.{numbered}
@@ -15,17 +14,9 @@ numbered_more s i = ap (numbered s) (add-one i)
 
 pub loop-i-init : goal.loop-i-init
 unfolding numbered
-loop-i-init c = (refl, omega arith)
+loop-i-init c = refl
 
 pub loop-i-preserved : goal.loop-i-preserved
 loop-i-preserved c =
-    let turn = c.loop-i in (
-      ap (λ (l : List ℕ). set (set l (1 + turn.i) (256 * (turn.i + 1) + (turn.i + 1))) (permit_cell turn.i) 1) turn.invariant.0 ∙ sym (numbered_more _ turn.i),
-      omega arith,
-    )
-
-pub returns : goal.returns
-returns c =
-    let done = c.loop-i in
-    let all : done.i ≡ 8 = omega arith in
-    done.invariant.0 ∙ ap (numbered _) all
+    let turn = c.loop-i in
+    ap (λ (l : List ℕ). set (set l (1 + turn.i) (256 * (turn.i + 1) + (turn.i + 1))) (permit_cell turn.i) 1) turn.invariant ∙ sym (numbered_more _ turn.i)

@@ -1,11 +1,7 @@
 -- The loop's invariant: the first i replicas are numbered.
 use mathlib.Core.Path.{◌≡◌}
-use Prim.Native.Nat.{◌-◌, ◌≤◌}
 use Rattle.chain.specs.{numbered}
 use Rattle.chain.proofs.number.Given as goal
 
 abbrev pub invariant-loop-i : goal.invariant-loop-i
-invariant-loop-i l = (l.cells ≡ numbered l.initial.cells l.i) × (l.i ≤ 8)
-
-abbrev pub decreases-loop-i : goal.decreases-loop-i
-decreases-loop-i l = 8 - l.i
+invariant-loop-i l = l.cells ≡ numbered l.initial.cells l.i

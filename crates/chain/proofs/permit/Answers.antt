@@ -3,4 +3,4 @@ use Rattle.chain.proofs.permit.Goals as goal
 
 pub returns : goal.returns
 unfolding permitting
-returns c = simp c.row-i.ensures.0
+returns c = simp (← c.row.ensures.0, c.from.ensures)

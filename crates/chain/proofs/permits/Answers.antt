@@ -3,4 +3,4 @@ use Rattle.chain.proofs.permits.Goals as goal
 
 pub returns : goal.returns
 unfolding permits
-returns c = simp c.permitted.ensures
+returns c = simp (← c.permitted.ensures, c.from.ensures)

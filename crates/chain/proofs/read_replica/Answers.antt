@@ -1,10 +1,9 @@
-use Rattle.chain.specs.{read_replica_of}
+use mathlib.Core.Path.{sym, ◌∙◌}
+use Rattle.chain.proofs.Numbers.{read_replica_is, read_replica_leader}
 use Rattle.chain.proofs.read_replica.Goals as goal
 
 pub returns-then-is_quorum : goal.returns-then-is_quorum
-unfolding read_replica_of
-returns-then-is_quorum c = simp (← c.is_quorum.ensures, c.if-is_quorum.true, c.head.ensures)
+returns-then-is_quorum c = c.head.ensures ∙ sym (read_replica_leader _ (sym c.is_quorum.ensures ∙ c.if-is_quorum.true))
 
-pub returns : goal.returns
-unfolding read_replica_of
-returns c = simp (← c.is_quorum.ensures, c.if-is_quorum.false, c.tail.ensures)
+pub returns-else-is_quorum : goal.returns-else-is_quorum
+returns-else-is_quorum c = c.tail.ensures ∙ sym (read_replica_is _ (sym c.is_quorum.ensures ∙ c.if-is_quorum.false))

@@ -14,16 +14,13 @@ unfolding removed
 returns-then-n-from c = simp (← c.count-n.ensures.0, le-ltb _ _ c.if-n-from.true)
 
 pub loop-i-init : goal.loop-i-init
-loop-i-init c = (sym (moves_none 0 _ _), omega arith, omega (arith, c.count-n.ensures.1))
+loop-i-init c = sym (moves_none 0 _ _)
 
 pub loop-i-preserved : goal.loop-i-preserved
 loop-i-preserved c =
-    let turn = c.loop-i in (
-      ap (λ (l : List ℕ). set l (1 + turn.i) (get_or l (1 + turn.i + 1) 0)) turn.invariant.0 ∙
-          moves_turn 0 _ _ (1 + turn.i) (omega arith) ∙ ap (moves 0 _ _) (omega arith),
-      omega arith,
-      omega arith,
-    )
+    let turn = c.loop-i in
+    ap (λ (l : List ℕ). set l (1 + turn.i) (get_or l (1 + turn.i + 1) 0)) turn.invariant ∙
+    moves_turn 0 _ _ (1 + turn.i) (omega arith) ∙ ap (moves 0 _ _) (omega arith)
 
 pub returns : goal.returns
 unfolding removed
@@ -31,6 +28,6 @@ returns c =
     let n = c.count-n.result in
     let from = c.args.from in
     let table = c.at-table.result in
-    let all : 1 + c.loop-i.i - (1 + from) ≡ 7 - from = omega arith in
-    simp (← c.count-n.ensures.0, lt-ltb _ _ c.if-n-from.false, ← c.at-table.ensures)
-    (ap (λ (l : List ℕ). set (set l 8 table) 0 (n - 1)) (c.loop-i.invariant.0 ∙ ap (moves 0 _ (1 + from)) all))
+    let all : 1 + c.loop-i.i - (1 + from) ≡ 7 - from = omega (arith, c.count-n.ensures.1) in
+    simp (← c.count-n.ensures.0, lt-ltb _ _ c.if-n-from.false, ← c.at-table.ensures, c.from.ensures)
+    (ap (λ (l : List ℕ). set (set l 8 table) 0 (n - 1)) (c.loop-i.invariant ∙ ap (moves 0 _ (1 + from)) all))

@@ -1,10 +1,6 @@
-use Rattle.chain.proofs.Members.{tail_none, tail_at}
-use mathlib.Core.Path.{sym, ◌∙◌}
-use native.Mathlib.Omega.{arith}
+use Rattle.chain.specs.{tail_of}
 use Rattle.chain.proofs.tail.Goals as goal
 
-pub returns-then-n-eq0 : goal.returns-then-n-eq0
-returns-then-n-eq0 c = sym (tail_none _ (omega (arith, c.count-n.ensures.0)))
-
 pub returns : goal.returns
-returns c = rw c.count-n.ensures.0 at c.at.ensures ∙ sym (tail_at _ (omega (arith, c.count-n.ensures.0)))
+unfolding tail_of
+returns c = simp (← c.count.ensures.0, ← c.saturating_sub.ensures, c.member.ensures)

@@ -1,21 +1,13 @@
-use Rattle.lists.proofs.Passing.{none_yet, number_passes, number_fails, all_passed}
-use Rattle.contexts.specs.{numbers_of, are_objects}
-use mathlib.Core.Path.{ap}
-use mathlib.Core.Bool.{not}
+use mathlib.Core.Path.{refl, ap, ◌∙◌}
+use borrow.Author.Rules.{rules}
+use borrow.Author.Tests.{tests}
+use Rattle.lists.specs.{list_of, all_of}
+use Rattle.lists.proofs.All.{all_places}
+use Rattle.contexts.specs.{place_of, numbers_of, is_object, are_objects}
 use Rattle.contexts.proofs.are_objects.Goals as goal
-
-pub loop-i-init : goal.loop-i-init
-loop-i-init c = none_yet c.size-n.ensures
-
-pub returns-then-not-is_object : goal.returns-then-not-is_object
-unfolding are_objects numbers_of
-returns-then-not-is_object c =
-    number_fails c.loop-i.invariant c.loop-i-test.true c.place.ensures c.is_object.ensures (ap not c.if-not-is_object.true)
-
-pub loop-i-preserved : goal.loop-i-preserved
-loop-i-preserved c =
-    number_passes c.loop-i.invariant c.loop-i-test.true c.place.ensures c.is_object.ensures (ap not c.if-not-is_object.false)
 
 pub returns : goal.returns
 unfolding are_objects numbers_of
-returns c = all_passed c.loop-i.invariant c.loop-i-test.false
+returns c =
+    all_places is_object (place_of c.args.v) _ c.all.ensures.ran refl (λ x b q k. search (rules, tests)) ∙
+    ap (λ n. all_of is_object (list_of (place_of c.args.v) n)) c.size.ensures.0

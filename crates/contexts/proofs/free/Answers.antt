@@ -3,4 +3,4 @@ use Rattle.contexts.proofs.free.Goals as goal
 
 pub returns : goal.returns
 unfolding freeing
-returns c = simp (← c.row_cell-i.ensures.0)
+returns c = simp (← c.row_cell.ensures.0)

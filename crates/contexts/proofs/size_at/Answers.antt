@@ -3,4 +3,4 @@ use Rattle.contexts.proofs.size_at.Goals as goal
 
 pub returns : goal.returns
 unfolding size_at
-returns c = simp (← c.row_cell-i.ensures.0)
+returns c = simp (← c.row_cell.ensures.0)

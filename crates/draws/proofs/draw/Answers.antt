@@ -1,7 +1,7 @@
-use Rattle.std.proofs.Common.{◌∙◌, arith}
+use Rattle.std.proofs.Common.{arith}
 use Rattle.draws.specs.{drawn}
 use Rattle.draws.proofs.draw.Goals as goal
 
 pub returns : goal.returns
 unfolding drawn
-returns c = c.wrapping_add_u32.ensures.value ∙ omega (arith, c.multiply.ensures)
+returns c = omega (arith, c.multiply.ensures)

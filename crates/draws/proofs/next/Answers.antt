@@ -12,9 +12,9 @@ returns-then-has_two c =
       simp (← tag, ← first, ← second, ← kind, ← c.has_two.ensures, c.if-has_two.true),
     )
 
-pub returns : goal.returns
+pub returns-else-has_two : goal.returns-else-has_two
 unfolding step_drawn seed_after
-returns c =
+returns-else-has_two c =
     let tag = c.draw-tag.ensures in
     let first = c.draw-first.ensures in
     let second = c.draw-second.ensures in

@@ -10,14 +10,14 @@ pub returns-then-is_start_refused : goal.returns-then-is_start_refused
 unfolding draw_refusal draw_answer draw_buffer
 returns-then-is_start_refused c =
     let refused = sym c.is_start_refused.ensures ∙ c.if-is_start_refused.true in
-    (simp refused, simp refused)
+    record { answer = simp refused; size = tt; buffer = simp refused }
 
 pub returns-then-steps-gt-MOST_STEPS : goal.returns-then-steps-gt-MOST_STEPS
 unfolding draw_refusal draw_answer draw_buffer
 returns-then-steps-gt-MOST_STEPS c =
     let stands = sym c.is_start_refused.ensures ∙ c.if-is_start_refused.false in
     let many = lt-ltb _ _ c.if-steps-gt-MOST_STEPS.true in
-    (simp (stands, many), simp (stands, many))
+    record { answer = simp (stands, many); size = tt; buffer = simp (stands, many) }
 
 pub returns-then-out-size : goal.returns-then-out-size
 unfolding draw_refusal draw_answer draw_buffer
@@ -27,7 +27,7 @@ returns-then-out-size c =
     let few = le-ltb _ _ c.if-steps-gt-MOST_STEPS.false in
     let size : length (bytes_drawn s.seed s.n s.steps) ≡ 4 + c.size-size.result = bytes_size s.seed s.n s.steps ∙ ap (λ (k : ℕ). 4 + k) (sym c.size-size.ensures.0) in
     let short = lt-leb (length (bytes_drawn s.seed s.n s.steps)) (length s.out.now) (omega (arith, size, c.if-out-size.true)) in
-    (simp (stands, few, short), simp (stands, few, short))
+    record { answer = simp (stands, few, short); size = tt; buffer = simp (stands, few, short) }
 
 pub overflow_cast-n : goal.overflow_cast-n
 overflow_cast-n c =
@@ -50,6 +50,8 @@ returns c =
     let few = le-ltb _ _ c.if-steps-gt-MOST_STEPS.false in
     let size : length (bytes_drawn s.seed s.n s.steps) ≡ 4 + c.size-size.result = bytes_size s.seed s.n s.steps ∙ ap (λ (k : ℕ). 4 + k) (sym c.size-size.ensures.0) in
     let room = le-leb (length (bytes_drawn s.seed s.n s.steps)) (length s.out.now) (omega (arith, size, c.if-out-size.false)) in
-    let count = 4 + c.size-size.result in
-    let small : count < 2 ^ 63 = omega (arith, c.size-size.ensures.1) in
-    (simp (stands, few, room) (to_z_pos w64 count small ∙ ap pos (sym size)), simp (stands, few, room) c.put.ensures)
+    record {
+      answer = simp (stands, few, room) (ap pos (sym size));
+      size = omega (arith, c.size-size.ensures.1);
+      buffer = simp (stands, few, room) c.put.ensures;
+    }

@@ -27,7 +27,7 @@ returns-in-1 c = simp c.in-1.is
 
 pub returns-in-2 : goal.returns-in-2
 unfolding step_from
-returns-in-2 c = simp c.in-2.is
+returns-in-2 c = simp (c.in-2.is, c.from.ensures)
 
 pub returns-in-3 : goal.returns-in-3
 unfolding step_from
@@ -59,4 +59,4 @@ returns-in-9 c = simp (c.in-9.is, ← c.replica-in-9.ensures)
 
 pub returns-in-10 : goal.returns-in-10
 unfolding step_from
-returns-in-10 c = simp c.in-10.is
+returns-in-10 c = simp (c.in-10.is, c.from-in-10.ensures)

@@ -6,6 +6,6 @@ pub returns-then-made-eq-COPIES : goal.returns-then-made-eq-COPIES
 unfolding copying
 returns-then-made-eq-COPIES c = simp (← c.copies-made.ensures.0, ← c.copy_objects.ensures, eq-eqb _ _ c.if-made-eq-COPIES.true, ← c.promote.ensures)
 
-pub returns : goal.returns
+pub returns-else-made-eq-COPIES : goal.returns-else-made-eq-COPIES
 unfolding copying
-returns c = simp (← c.copies-made.ensures.0, ← c.copy_objects.ensures, ne_eqb _ _ c.if-made-eq-COPIES.false)
+returns-else-made-eq-COPIES c = simp (← c.copies-made.ensures.0, ← c.copy_objects.ensures, ne_eqb _ _ c.if-made-eq-COPIES.false)

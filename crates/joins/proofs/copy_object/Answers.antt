@@ -3,4 +3,4 @@ use Rattle.joins.proofs.copy_object.Goals as goal
 
 pub returns : goal.returns
 unfolding copied_object
-returns c = simp (← c.read_value-value.ensures, ← c.read_stamp-stamp.ensures, ← c.put_write.ensures)
+returns c = simp (← c.read_value.ensures, ← c.read_stamp.ensures, ← c.put_write.ensures)

@@ -13,22 +13,19 @@ copied_more s q t first k = ap (copied s q t first) (add-one k)
 
 pub loop-k-init : goal.loop-k-init
 unfolding copied
-loop-k-init c = (refl, omega arith, omega (arith, c.copies-first.ensures.1))
+loop-k-init c = refl
 
 pub loop-k-preserved : goal.loop-k-preserved
 loop-k-preserved c =
     let turn = c.loop-k in
     let q = c.newcomer-q.result in
     let t = c.tail-t.result in
-    let first = 64 * c.copies-first.result in (
-      c.copy_object.ensures ∙ ap (λ (l : List ℕ). copied_object l q t (first + turn.k)) turn.invariant.0 ∙ sym (copied_more _ q t first turn.k),
-      omega arith,
-      turn.invariant.2,
-    )
+    let first = 64 * c.copies-first.result in
+    c.copy_object.ensures ∙ ap (λ (l : List ℕ). copied_object l q t (first + turn.k)) turn.invariant ∙ sym (copied_more _ q t first turn.k)
 
 pub returns : goal.returns
 unfolding one_copy
 returns c =
     let done = c.loop-k in
     let all : done.k ≡ 64 = omega arith in
-    simp (← c.copies-first.ensures.0, ← c.tail-t.ensures, ← c.newcomer-q.ensures) (done.invariant.0 ∙ ap (copied _ _ _ _) all)
+    simp (← c.copies-first.ensures.0, ← c.tail-t.ensures, ← c.newcomer-q.ensures) (done.invariant ∙ ap (copied _ _ _ _) all)

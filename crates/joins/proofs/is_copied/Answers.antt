@@ -1,10 +1,10 @@
 use Rattle.joins.specs.{is_copied}
 use Rattle.joins.proofs.is_copied.Goals as goal
 
-pub returns-then-not-is_joining : goal.returns-then-not-is_joining
+pub returns-then-is_joining : goal.returns-then-is_joining
 unfolding is_copied
-returns-then-not-is_joining c = simp (← c.is_joining.ensures, c.if-not-is_joining.true)
+returns-then-is_joining c = simp (← c.is_joining.ensures, c.if-is_joining.true, ← c.copies.ensures.0)
 
-pub returns : goal.returns
+pub returns-else-is_joining : goal.returns-else-is_joining
 unfolding is_copied
-returns c = simp (← c.is_joining.ensures, c.if-not-is_joining.false, ← c.copies.ensures.0)
+returns-else-is_joining c = simp (← c.is_joining.ensures, c.if-is_joining.false)

@@ -6,6 +6,6 @@ pub returns-then-count-ge-REPLICAS : goal.returns-then-count-ge-REPLICAS
 unfolding is_full
 returns-then-count-ge-REPLICAS c = simp (← c.count.ensures.0, le-leb _ _ c.if-count-ge-REPLICAS.true)
 
-pub returns : goal.returns
+pub returns-else-count-ge-REPLICAS : goal.returns-else-count-ge-REPLICAS
 unfolding is_full
-returns c = simp (← c.count.ensures.0, lt-leb _ _ c.if-count-ge-REPLICAS.false, ← c.last_number.ensures)
+returns-else-count-ge-REPLICAS c = simp (← c.count.ensures.0, lt-leb _ _ c.if-count-ge-REPLICAS.false, ← c.last_number.ensures)

@@ -1,10 +1,10 @@
 use Rattle.joins.specs.{is_newcomer}
 use Rattle.joins.proofs.is_newcomer.Goals as goal
 
-pub returns-then-not-is_joining : goal.returns-then-not-is_joining
+pub returns-then-is_joining : goal.returns-then-is_joining
 unfolding is_newcomer
-returns-then-not-is_joining c = simp (← c.is_joining.ensures, c.if-not-is_joining.true)
+returns-then-is_joining c = simp (← c.is_joining.ensures, c.if-is_joining.true, ← c.newcomer_number.ensures)
 
-pub returns : goal.returns
+pub returns-else-is_joining : goal.returns-else-is_joining
 unfolding is_newcomer
-returns c = simp (← c.is_joining.ensures, c.if-not-is_joining.false, ← c.newcomer_number.ensures)
+returns-else-is_joining c = simp (← c.is_joining.ensures, c.if-is_joining.false)

@@ -12,7 +12,7 @@ pub loop-i-init : goal.loop-i-init
 unfolding later_values
 loop-i-init c =
     let size = c.size-n.ensures in
-    (omega (arith, c.digits_of-digits.ensures.0, decimal_places c.args.v.first), size.0, size.1, omega arith, omega arith)
+    (omega (arith, c.digits_of-digits.ensures.0, decimal_places c.args.v.first), size.0, size.1, omega arith)
 
 pub overflow_add-digits-in-loop-i : goal.overflow_add-digits-in-loop-i
 overflow_add-digits-in-loop-i c =
@@ -25,10 +25,9 @@ loop-i-preserved c =
     let turn = c.loop-i in
     let v = c.args.v in
     let value = c.digits_of.ensures.0 ∙ ap places c.place.ensures ∙ sym (decimal_places (place_of v turn.i)) in (
-      omega (arith, turn.invariant.0, value, later_parts v turn.i turn.invariant.3),
+      omega (arith, turn.invariant.0, value, later_parts v turn.i (omega arith)),
       turn.invariant.1,
       turn.invariant.2,
-      omega arith,
       omega arith,
     )
 

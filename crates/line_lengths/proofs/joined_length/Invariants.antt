@@ -8,7 +8,4 @@ use Rattle.line_lengths.proofs.joined_length.Given as goal
 
 abbrev pub invariant-loop-i : goal.invariant-loop-i
 invariant-loop-i l =
-    (l.digits ≡ length (decimal l.v.first) + length (later_values l.v (l.i - 1))) × (l.n ≡ size_of l.v) × (l.n ≤ 8) × (1 ≤ l.i) × (l.i - 1 ≤ l.n - 1)
-
-abbrev pub decreases-loop-i : goal.decreases-loop-i
-decreases-loop-i l = l.n - l.i
+    (l.digits ≡ length (decimal l.v.first) + length (later_values l.v (l.i - 1))) × (l.n ≡ size_of l.v) × (l.n ≤ 8) × (l.i - 1 ≤ l.n - 1)

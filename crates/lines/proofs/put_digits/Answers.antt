@@ -10,26 +10,26 @@ use Rattle.line_lengths.proofs.Numbers.{digits_length}
 use Rattle.lines.proofs.Text.{pasted_by}
 use Rattle.lines.proofs.put_digits.Goals as goal
 
-pub loop-left-init : goal.loop-left-init
-loop-left-init c =
+pub loop-place-init : goal.loop-place-init
+loop-place-init c =
     let s = c.args in (fill_none s.at s.k s.n s.out.now, omega arith, refl, refl, c.requires.0)
 
-pub loop-left-preserved : goal.loop-left-preserved
-loop-left-preserved c =
+pub loop-place-preserved : goal.loop-place-preserved
+loop-place-preserved c =
     let s = c.args in
-    let l = c.loop-left in (
-      l.invariant.0 ∙ fill_more s.at (s.at + s.k) l.left l.rest l.out (omega arith) (omega arith) (omega arith),
+    let l = c.loop-place in (
+      l.invariant.0 ∙ fill_more s.at (s.at + s.k) l.place l.rest l.out (omega arith) (omega arith) (omega arith),
       omega arith,
       simp length-set (omega arith),
-      drop-set-lt (s.at + s.k) l.out (s.at + (l.left - 1)) _ (omega arith) ∙ l.invariant.3,
+      drop-set-lt (s.at + s.k) l.out (s.at + (l.place - 1)) _ (omega arith) ∙ l.invariant.3,
       l.invariant.4,
     )
 
 pub returns : goal.returns
 returns c =
     let s = c.args in
-    let l = c.loop-left in
-    let none : l.left ≡ 0 = omega arith in
+    let l = c.loop-place in
+    let none : l.place ≡ 0 = omega arith in
     let all : s.k ≡ length (digits s.k s.n) = sym (digits_length s.k s.n) in
     let front : take s.at s.out.now ++ digits s.k s.n ≡ take (s.at + s.k) l.out =
     l.invariant.0 ∙ ap (λ (i : ℕ). filled s.at (s.at + s.k) i l.rest l.out) none ∙ fill_all s.at (s.at + s.k) l.rest l.out (omega arith) in

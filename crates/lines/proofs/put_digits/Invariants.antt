@@ -7,13 +7,10 @@ use Rattle.line_lengths.specs.Lines.{digits}
 use Rattle.lines.proofs.Digits.{filled}
 use Rattle.lines.proofs.put_digits.Given as goal
 
-abbrev pub invariant-loop-left : goal.invariant-loop-left
-invariant-loop-left l =
-    (take l.at l.initial.out ++ digits l.k l.n ≡ filled l.at (l.at + l.k) l.left l.rest l.out) ×
-    (l.left ≤ l.k) ×
+abbrev pub invariant-loop-place : goal.invariant-loop-place
+invariant-loop-place l =
+    (take l.at l.initial.out ++ digits l.k l.n ≡ filled l.at (l.at + l.k) l.place l.rest l.out) ×
+    (l.place ≤ l.k) ×
     (length l.out ≡ length l.initial.out) ×
     (drop (l.at + l.k) l.out ≡ drop (l.at + l.k) l.initial.out) ×
     (l.at + l.k ≤ length l.initial.out)
-
-abbrev pub decreases-loop-left : goal.decreases-loop-left
-decreases-loop-left l = l.left

@@ -9,7 +9,4 @@ use Rattle.lines.proofs.put_joined.Given as goal
 
 abbrev pub invariant-loop-i : goal.invariant-loop-i
 invariant-loop-i l =
-    Puts l.initial.out l.initial.end (later_values l.v (l.i - 1)) l.end l.out × (l.initial.end + length (later_values l.v (l.n - 1)) ≤ length l.initial.out) × (l.n ≡ size_of l.v) × (l.n ≤ 8) × (1 ≤ l.i) × (l.i - 1 ≤ l.n - 1)
-
-abbrev pub decreases-loop-i : goal.decreases-loop-i
-decreases-loop-i l = l.n - l.i
+    Puts l.initial.out l.initial.end (later_values l.v (l.i - 1)) l.end l.out × (l.initial.end + length (later_values l.v (l.n - 1)) ≤ length l.initial.out) × (l.n ≡ size_of l.v) × (l.n ≤ 8) × (l.i - 1 ≤ l.n - 1)

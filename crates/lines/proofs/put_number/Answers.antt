@@ -18,4 +18,4 @@ put_digits-requires c =
 
 pub returns : goal.returns
 unfolding decimal
-returns c = rw c.digits_of.ensures.0 at c.put_digits.ensures
+returns c = rw (c.digits_of.ensures.0, c.from.ensures) at c.put_digits.ensures

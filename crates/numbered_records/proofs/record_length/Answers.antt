@@ -21,13 +21,13 @@ content_short : (k : ℕ) → content_length k ≤ 26
 unfolding content_length
 content_short k = at_most lengths k
 
-pub returns-then-not-has_numbers : goal.returns-then-not-has_numbers
-unfolding record_size
-returns-then-not-has_numbers c = simp (← c.kind_of_tag-kind.ensures, c.if-not-has_numbers.true, ← c.has_numbers.ensures)
-
 pub overflow_add-result : goal.overflow_add-result
 overflow_add-result c = let short : c.content_length.result ≤ 26 = rw c.content_length.ensures (content_short _) in search (rules, short)
 
-pub returns : goal.returns
+pub returns-then-has_numbers : goal.returns-then-has_numbers
 unfolding record_size
-returns c = simp (← c.kind_of_tag-kind.ensures, c.if-not-has_numbers.false, ← c.has_numbers.ensures, ← c.content_length.ensures)
+returns-then-has_numbers c = simp (← c.kind_of_tag-kind.ensures, c.if-has_numbers.true, ← c.has_numbers.ensures, ← c.content_length.ensures)
+
+pub returns-else-has_numbers : goal.returns-else-has_numbers
+unfolding record_size
+returns-else-has_numbers c = simp (← c.kind_of_tag-kind.ensures, c.if-has_numbers.false, ← c.has_numbers.ensures)

@@ -1,88 +1,67 @@
-use Prim.Native.Nat.{ℕ}
-use borrow.Author.Tests.{ne_eqb}
+use Rattle.std.proofs.Common.{arith}
 use Rattle.numbered_records.specs.{step_from}
 use Rattle.numbered_records.proofs.step_from.Goals as goal
 
--- no kind is left
 pub returns-in_default : goal.returns-in_default
 unfolding step_from
-returns-in_default c =
-    let k : ℕ = c.args.kind in
-    let others = c.in_default.in_default-own.rest in
-    simp (
-      ne_eqb k 15 others.1,
-      ne_eqb k 14 others.0.1,
-      ne_eqb k 13 others.0.0.1,
-      ne_eqb k 12 others.0.0.0.1,
-      ne_eqb k 10 others.0.0.0.0.1,
-      ne_eqb k 9 others.0.0.0.0.0.1,
-      ne_eqb k 8 others.0.0.0.0.0.0.1,
-      ne_eqb k 7 others.0.0.0.0.0.0.0.1,
-      ne_eqb k 6 others.0.0.0.0.0.0.0.0.1,
-      ne_eqb k 5 others.0.0.0.0.0.0.0.0.0.1,
-      ne_eqb k 4 others.0.0.0.0.0.0.0.0.0.0.1,
-      ne_eqb k 3 others.0.0.0.0.0.0.0.0.0.0.0.1,
-      ne_eqb k 2 others.0.0.0.0.0.0.0.0.0.0.0.0.1,
-      ne_eqb k 1 others.0.0.0.0.0.0.0.0.0.0.0.0.0.1,
-      ne_eqb k 0 others.0.0.0.0.0.0.0.0.0.0.0.0.0.0.1,
-    )
+returns-in_default c = grind arith
 
 pub returns-in-0 : goal.returns-in-0
 unfolding step_from
-returns-in-0 c = simp c.in-0.is
+returns-in-0 c = grind arith
 
 pub returns-in-1 : goal.returns-in-1
 unfolding step_from
-returns-in-1 c = simp c.in-1.is
+returns-in-1 c = grind arith
 
 pub returns-in-2 : goal.returns-in-2
 unfolding step_from
-returns-in-2 c = simp c.in-2.is
+returns-in-2 c = grind arith
 
 pub returns-in-3 : goal.returns-in-3
 unfolding step_from
-returns-in-3 c = simp c.in-3.is
+returns-in-3 c = grind arith
 
 pub returns-in-4 : goal.returns-in-4
 unfolding step_from
-returns-in-4 c = simp c.in-4.is
+returns-in-4 c = grind arith
 
 pub returns-in-5 : goal.returns-in-5
 unfolding step_from
-returns-in-5 c = simp c.in-5.is
+returns-in-5 c = grind arith
 
 pub returns-in-6 : goal.returns-in-6
 unfolding step_from
-returns-in-6 c = simp c.in-6.is
+returns-in-6 c = grind arith
 
 pub returns-in-7 : goal.returns-in-7
 unfolding step_from
-returns-in-7 c = simp c.in-7.is
+returns-in-7 c = grind arith
 
 pub returns-in-8 : goal.returns-in-8
 unfolding step_from
-returns-in-8 c = simp c.in-8.is
+returns-in-8 c = grind arith
 
 pub returns-in-9 : goal.returns-in-9
 unfolding step_from
-returns-in-9 c = simp c.in-9.is
+returns-in-9 c = grind arith
 
 pub returns-in-10 : goal.returns-in-10
 unfolding step_from
-returns-in-10 c = simp c.in-10.is
+returns-in-10 c = grind arith
 
 pub returns-in-12 : goal.returns-in-12
 unfolding step_from
-returns-in-12 c = simp c.in-12.is
+returns-in-12 c = grind arith
 
 pub returns-in-13 : goal.returns-in-13
 unfolding step_from
-returns-in-13 c = simp c.in-13.is
+returns-in-13 c = grind arith
 
 pub returns-in-14 : goal.returns-in-14
 unfolding step_from
-returns-in-14 c = simp c.in-14.is
+returns-in-14 c = grind arith
 
 pub returns-in-15 : goal.returns-in-15
 unfolding step_from
-returns-in-15 c = simp c.in-15.is
+returns-in-15 c = grind arith

@@ -1,12 +1,13 @@
 use mathlib.Core.Path.{refl}
-use borrow.Author.Tests.{le-ltb, lt-ltb}
+use borrow.Author.Tests.{lt-ltb}
 use Rattle.operations.specs.{closing, is_open}
+use Rattle.operations.proofs.Search.{none_found}
 use Rattle.operations.proofs.close.Goals as goal
 
-pub returns-then-n-i : goal.returns-then-n-i
+pub returns-in_default : goal.returns-in_default
 unfolding closing is_open
-returns-then-n-i c = simp (← c.count-n.ensures.0, ← c.find-i.ensures, le-ltb _ _ c.if-n-i.true) (refl, refl)
+returns-in_default c = simp (none_found _ _ c.find.result c.find.ensures c.in_default.not-Some) (refl, refl)
 
 pub returns : goal.returns
 unfolding closing is_open
-returns c = simp (← c.count-n.ensures.0, ← c.find-i.ensures, lt-ltb _ _ c.if-n-i.false) (refl, refl)
+returns c = simp (c.count-last.ensures.0, c.in-Some.ensures.0, lt-ltb _ _ c.in-Some.ensures.1) (refl, refl)

@@ -1,23 +1,18 @@
-use mathlib.Core.Path.{sym, ◌∙◌}
+use mathlib.Core.Path.{◌≡◌}
+use Prim.Native.Nat.{ℕ}
 use native.Mathlib.Omega.{arith}
-use borrow.Author.Count.{below_more, below_none}
-use Rattle.operations.proofs.Laws.{place_first, place_none}
+use Rattle.std.proofs.lemmas.Iterator.{IsFirst-from_position, YieldsList-from_slice}
+use borrow.Author.Tests.{tests}
+use borrow.Author.Rules.{rules}
+use lib.ListN.{take}
+use Rattle.operations.specs.{open_count}
+use Rattle.operations.proofs.Search.{scanned}
 use Rattle.operations.proofs.scan.Goals as goal
-
-pub loop-i-init : goal.loop-i-init
-loop-i-init c = (omega arith, c.count-n.ensures.0, c.count-n.ensures.1, below_none _)
-
-pub returns-then-cells-i : goal.returns-then-cells-i
-returns-then-cells-i c =
-    let turn = c.loop-i in
-    sym (place_first _ _ turn.i (omega arith) turn.invariant.3 c.if-cells-i.true)
-
-pub loop-i-preserved : goal.loop-i-preserved
-loop-i-preserved c =
-    let turn = c.loop-i in
-    (omega arith, turn.invariant.1, turn.invariant.2, below_more _ _ turn.invariant.3 c.if-cells-i.false)
 
 pub returns : goal.returns
 returns c =
-    let done = c.loop-i in
-    done.invariant.1 ∙ sym (place_none _ _ (λ k b. done.invariant.3 k (omega arith)))
+    let l = c.args.cells.now in
+    let o = c.args.o in
+    scanned l o c.position.result (omega arith)
+    (IsFirst-from_position _ _ _ (λ (x : ℕ). x ≡ o) (λ (x : ℕ). x ≡ o → ⊥) c.position.ensures.ran
+    (YieldsList-from_slice (take (open_count l) l) (rw (← c.count.ensures.0) c.iter.ensures.rest)) (λ x q k. search (rules, tests)) (λ x q k. search (rules, tests)))

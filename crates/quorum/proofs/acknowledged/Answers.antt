@@ -3,4 +3,4 @@ use Rattle.quorum.proofs.acknowledged.Goals as goal
 
 pub returns : goal.returns
 unfolding acknowledged_by
-returns c = simp (← c.row-i.ensures.0)
+returns c = simp (← c.row.ensures.0)

@@ -2,10 +2,10 @@ use borrow.Author.Tests.{eq-eqb, ne_eqb}
 use Rattle.quorum.specs.{answers_behind}
 use Rattle.quorum.proofs.answers.Goals as goal
 
-pub returns-then-permitted-number : goal.returns-then-permitted-number
+pub returns-then-permitted-from : goal.returns-then-permitted-from
 unfolding answers_behind
-returns-then-permitted-number c = simp (← c.permitted.ensures, ne_eqb _ _ c.if-permitted-number.true)
+returns-then-permitted-from c = simp (← c.permitted.ensures, ← c.from.ensures, eq-eqb _ _ c.if-permitted-from.true, ← c.highest.ensures, ← c.above.ensures)
 
-pub returns : goal.returns
+pub returns-else-permitted-from : goal.returns-else-permitted-from
 unfolding answers_behind
-returns c = simp (← c.permitted.ensures, eq-eqb _ _ c.if-permitted-number.false, ← c.highest.ensures, ← c.above.ensures)
+returns-else-permitted-from c = simp (← c.permitted.ensures, ← c.from.ensures, ne_eqb _ _ c.if-permitted-from.false)

@@ -6,6 +6,6 @@ pub returns-then-r-head : goal.returns-then-r-head
 unfolding is_holder
 returns-then-r-head c = simp (← c.head.ensures, eq-eqb _ _ c.if-r-head.true)
 
-pub returns : goal.returns
+pub returns-else-r-head : goal.returns-else-r-head
 unfolding is_holder
-returns c = simp (← c.head.ensures, ne_eqb _ _ c.if-r-head.false, ← c.acknowledged.ensures)
+returns-else-r-head c = simp (← c.head.ensures, ne_eqb _ _ c.if-r-head.false, ← c.acknowledged.ensures)

@@ -1,7 +1,6 @@
 use mathlib.Core.Path.{◌≡◌, ap, ◌∙◌}
 use mathlib.Core.List.{List}
 use Prim.Native.Nat.{ℕ, ◌-◌}
-use native.Mathlib.Omega.{arith}
 use Rattle.store.specs.{entry_at}
 use Rattle.chain.specs.{head_of}
 use Rattle.quorum.specs.{logged_by, last_logged}
@@ -12,8 +11,5 @@ last_is : (s : List ℕ) (r n p : ℕ) → r ≡ head_of s → n ≡ logged_by s
 unfolding last_logged
 last_is s r n p e f q = ap (λ (k : ℕ). (entry_at s k).stamp) (q ∙ ap (λ (k : ℕ). k - 1) (f ∙ ap (logged_by s) e))
 
-pub returns-then-n-eq0 : goal.returns-then-n-eq0
-returns-then-n-eq0 c = c.entry_stamp.ensures ∙ last_is _ _ _ _ c.head.ensures c.logged-n.ensures (omega (arith, c.if-n-eq0.true))
-
 pub returns : goal.returns
-returns c = c.entry_stamp-2.ensures ∙ last_is _ _ _ _ c.head.ensures c.logged-n.ensures (omega arith)
+returns c = c.entry_stamp.ensures ∙ last_is _ _ _ _ c.head.ensures c.logged-n.ensures c.saturating_sub.ensures

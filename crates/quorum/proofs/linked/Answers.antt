@@ -1,11 +1,6 @@
-use native.Mathlib.Omega.{arith}
 use Rattle.quorum.specs.{linked_items}
 use Rattle.quorum.proofs.linked.Goals as goal
 
-pub returns-then-all-own : goal.returns-then-all-own
-unfolding linked_items
-returns-then-all-own c = simp (← c.head.ensures, ← c.taken-all.ensures, ← c.taken-own.ensures) (omega arith)
-
 pub returns : goal.returns
 unfolding linked_items
-returns c = simp (← c.head.ensures, ← c.taken-all.ensures, ← c.taken-own.ensures)
+returns c = simp (← c.head.ensures, ← c.taken.ensures, ← c.taken-2.ensures, c.saturating_sub.ensures)

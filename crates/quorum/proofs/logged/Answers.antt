@@ -3,4 +3,4 @@ use Rattle.quorum.proofs.logged.Goals as goal
 
 pub returns : goal.returns
 unfolding logged_by
-returns c = simp (← c.row-i.ensures.0)
+returns c = simp (← c.row.ensures.0)

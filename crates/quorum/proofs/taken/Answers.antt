@@ -3,4 +3,4 @@ use Rattle.quorum.proofs.taken.Goals as goal
 
 pub returns : goal.returns
 unfolding items_taken
-returns c = simp (← c.logged.ensures, ← c.applied.ensures, c.wide.ensures.0, c.wide-2.ensures.0)
+returns c = simp (← c.logged.ensures, ← c.applied.ensures)

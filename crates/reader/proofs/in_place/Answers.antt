@@ -1,10 +1,14 @@
+use mathlib.Core.Path.{◌≡◌, refl}
+use mathlib.Core.Bool.{Bool, true, false, cond, not, beq}
 use Rattle.records.specs.Records.{in_place}
 use Rattle.reader.proofs.in_place.Goals as goal
 
-pub returns-then-first : goal.returns-then-first
-unfolding in_place
-returns-then-first c = simp (← c.is_start-start.ensures, c.if-first.true)
+same : (a first : Bool) → beq a first ≡ cond first a (not a)
+same true true = refl
+same true false = refl
+same false true = refl
+same false false = refl
 
-pub returns-else-first : goal.returns-else-first
+pub returns : goal.returns
 unfolding in_place
-returns-else-first c = simp (← c.is_start-start.ensures, c.if-first.false)
+returns c = simp (same, c.is_start.ensures)

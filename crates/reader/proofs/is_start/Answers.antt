@@ -6,6 +6,6 @@ pub returns-then-kind-eq0 : goal.returns-then-kind-eq0
 unfolding is_start
 returns-then-kind-eq0 c = simp (← c.kind_of-kind.ensures, eq-eqb _ _ c.if-kind-eq0.true)
 
-pub returns : goal.returns
+pub returns-else-kind-eq0 : goal.returns-else-kind-eq0
 unfolding is_start
-returns c = simp (← c.kind_of-kind.ensures, ne_eqb _ _ c.if-kind-eq0.false)
+returns-else-kind-eq0 c = simp (← c.kind_of-kind.ensures, ne_eqb _ _ c.if-kind-eq0.false)

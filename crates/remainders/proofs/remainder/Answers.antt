@@ -12,35 +12,35 @@ above k n h d = omega (arith, h, d)
 
 pub returns-in-1 : goal.returns-in-1
 unfolding by_one
-returns-in-1 c = λ low high. remainder_at c.args.n 1 by_one tt refl c.in-1.is c.args.choice (search rules)
+returns-in-1 c = λ low high. remainder_at c.args.n 1 by_one tt refl c.in-1.is c.args.choice _ c.from-i.ensures (search rules)
 
 pub returns-in-2 : goal.returns-in-2
 unfolding by_two
-returns-in-2 c = λ low high. remainder_at c.args.n 2 by_two tt refl c.in-2.is c.args.choice (search rules)
+returns-in-2 c = λ low high. remainder_at c.args.n 2 by_two tt refl c.in-2.is c.args.choice _ c.from-i.ensures (search rules)
 
 pub returns-in-3 : goal.returns-in-3
 unfolding by_three
-returns-in-3 c = λ low high. remainder_at c.args.n 3 by_three tt refl c.in-3.is c.args.choice (search rules)
+returns-in-3 c = λ low high. remainder_at c.args.n 3 by_three tt refl c.in-3.is c.args.choice _ c.from-i.ensures (search rules)
 
 pub returns-in-4 : goal.returns-in-4
 unfolding by_four
-returns-in-4 c = λ low high. remainder_at c.args.n 4 by_four tt refl c.in-4.is c.args.choice (search rules)
+returns-in-4 c = λ low high. remainder_at c.args.n 4 by_four tt refl c.in-4.is c.args.choice _ c.from-i.ensures (search rules)
 
 pub returns-in-5 : goal.returns-in-5
 unfolding by_five
-returns-in-5 c = λ low high. remainder_at c.args.n 5 by_five tt refl c.in-5.is c.args.choice (search rules)
+returns-in-5 c = λ low high. remainder_at c.args.n 5 by_five tt refl c.in-5.is c.args.choice _ c.from-i.ensures (search rules)
 
 pub returns-in-6 : goal.returns-in-6
 unfolding by_six
-returns-in-6 c = λ low high. remainder_at c.args.n 6 by_six tt refl c.in-6.is c.args.choice (search rules)
+returns-in-6 c = λ low high. remainder_at c.args.n 6 by_six tt refl c.in-6.is c.args.choice _ c.from-i.ensures (search rules)
 
 pub returns-in-7 : goal.returns-in-7
 unfolding by_seven
-returns-in-7 c = λ low high. remainder_at c.args.n 7 by_seven tt refl c.in-7.is c.args.choice (search rules)
+returns-in-7 c = λ low high. remainder_at c.args.n 7 by_seven tt refl c.in-7.is c.args.choice _ c.from-i.ensures (search rules)
 
 pub returns-in-8 : goal.returns-in-8
 unfolding by_eight
-returns-in-8 c = λ low high. remainder_at c.args.n 8 by_eight tt refl c.in-8.is c.args.choice (search rules)
+returns-in-8 c = λ low high. remainder_at c.args.n 8 by_eight tt refl c.in-8.is c.args.choice _ c.from-i.ensures (search rules)
 
 pub returns-in_default : goal.returns-in_default
 returns-in_default c = λ low high.

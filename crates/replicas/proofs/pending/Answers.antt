@@ -1,4 +1,3 @@
-use native.Mathlib.Omega.{arith}
 use borrow.Author.Tests.{eq-eqb, ne_eqb}
 use Rattle.replicas.specs.Replicas.{pending_at}
 use Rattle.replicas.proofs.pending.Goals as goal
@@ -7,10 +6,6 @@ pub returns-then-place-eq0 : goal.returns-then-place-eq0
 unfolding pending_at
 returns-then-place-eq0 c = simp (eq-eqb _ _ c.if-place-eq0.true)
 
-pub returns-then-before-own : goal.returns-then-before-own
-unfolding pending_at
-returns-then-before-own c = simp (ne_eqb _ _ c.if-place-eq0.false, ← c.member.ensures, ← c.applied-before.ensures, ← c.applied-own.ensures) (omega arith)
-
 pub returns : goal.returns
 unfolding pending_at
-returns c = simp (ne_eqb _ _ c.if-place-eq0.false, ← c.member.ensures, ← c.applied-before.ensures, ← c.applied-own.ensures)
+returns c = simp (ne_eqb _ _ c.if-place-eq0.false, ← c.member.ensures, ← c.applied-before.ensures, ← c.applied-own.ensures, c.saturating_sub.ensures)

@@ -7,7 +7,7 @@ unfolding put_bytes
 returns-then-n-room c = let put = c.put_line-n.ensures in
     (simp (← put.0, le-leb _ _ c.if-n-room.true), put.1)
 
-pub returns : goal.returns
+pub returns-else-n-room : goal.returns-else-n-room
 unfolding put_bytes
-returns c = let put = c.put_line-n.ensures in
+returns-else-n-room c = let put = c.put_line-n.ensures in
     (simp (← put.0, lt-leb _ _ c.if-n-room.false), put.1)

@@ -16,6 +16,3 @@ invariant-loop-i l =
     (length l.out ≡ length l.initial.out) ×
     (l.at ≤ length l.input) ×
     (Within l.count l.input × (l.count ≤ length l.flags) × (length l.input ≤ length l.initial.out))
-
-abbrev pub decreases-loop-i : goal.decreases-loop-i
-decreases-loop-i l = l.count - l.i

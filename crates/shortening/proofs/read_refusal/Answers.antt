@@ -22,7 +22,5 @@ returns c =
       le-ltb n 3 long,
       get_or-take n s.lines.now (n - 3) 0 (omega arith),
       get_or-take n s.lines.now (n - 2) 0 (omega arith),
-      ← c.byte_at-2.ensures,
-      ← c.byte_at.ensures,
       ← c.read_digits.ensures,
     )

@@ -1,10 +1,7 @@
 use Rattle.slots.specs.{is_free, counts_above}
+use Rattle.slots.proofs.Tests.{turned}
 use Rattle.slots.proofs.is_free.Goals as goal
 
-pub returns-then-above : goal.returns-then-above
+pub returns : goal.returns
 unfolding is_free counts_above
-returns-then-above c = simp (← c.above.ensures, c.if-above.true)
-
-pub returns-else-above : goal.returns-else-above
-unfolding is_free counts_above
-returns-else-above c = simp (← c.above.ensures, c.if-above.false)
+returns c = simp (← c.above.ensures, turned)

@@ -1,10 +1,6 @@
-use Rattle.stamp.specs.Stamps.{larger_of}
+use Rattle.stamp.proofs.Laws.{larger_is}
+use borrow.Author.Rules.{rules}
 use Rattle.stamp.proofs.larger.Goals as goal
 
-pub returns-then-above : goal.returns-then-above
-unfolding larger_of
-returns-then-above c = simp (← c.above.ensures, c.if-above.true)
-
-pub returns-else-above : goal.returns-else-above
-unfolding larger_of
-returns-else-above c = simp (← c.above.ensures, c.if-above.false)
+pub returns : goal.returns
+returns c = simp larger_is (search rules)

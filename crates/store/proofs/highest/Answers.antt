@@ -3,4 +3,4 @@ use Rattle.store.proofs.highest.Goals as goal
 
 pub returns : goal.returns
 unfolding highest_of
-returns c = simp (← c.row.ensures.0, ← c.stamp_in.ensures)
+returns c = simp (← c.row.ensures.0, ← c.read.ensures)

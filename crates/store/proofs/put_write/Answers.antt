@@ -3,4 +3,4 @@ use Rattle.store.proofs.put_write.Goals as goal
 
 pub returns : goal.returns
 unfolding tabled
-returns c = simp (← c.value_cell-i.ensures.0, ← c.stamp_cell-j.ensures.0, ← c.set_stamp.ensures)
+returns c = simp (← c.value_cell.ensures.0, ← c.stamp_cell.ensures.0, ← c.write.ensures)

@@ -3,4 +3,4 @@ use Rattle.store.proofs.raise.Goals as goal
 
 pub returns : goal.returns
 unfolding raised
-returns c = simp (← c.row-i.ensures.0, ← c.set_stamp.ensures)
+returns c = simp (← c.row-i.ensures.0, ← c.write.ensures)

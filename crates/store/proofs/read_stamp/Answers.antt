@@ -3,4 +3,4 @@ use Rattle.store.proofs.read_stamp.Goals as goal
 
 pub returns : goal.returns
 unfolding stamp_at
-returns c = simp (← c.stamp_cell-i.ensures.0, ← c.stamp_in.ensures)
+returns c = simp (← c.stamp_cell.ensures.0, ← c.read.ensures)

@@ -3,4 +3,4 @@ use Rattle.store.proofs.read_value.Goals as goal
 
 pub returns : goal.returns
 unfolding value_at
-returns c = simp (← c.value_cell-i.ensures.0)
+returns c = simp (← c.value_cell.ensures.0)

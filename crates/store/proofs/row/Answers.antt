@@ -1,8 +1,7 @@
-use mathlib.Core.Path.{refl}
 use Rattle.store.specs.{row_of}
 use borrow.Author.Rules.{rules}
 use Rattle.store.proofs.row.Goals as goal
 
 pub returns : goal.returns
 unfolding row_of
-returns c = (refl, search rules)
+returns c = search rules

@@ -1,23 +1,15 @@
+use mathlib.Core.Path.{◌≡◌, sym}
+use Rattle.std.specs.Prelude.{None}
+use native.Mathlib.Omega.{arith}
+use borrow.Author.Rules.{rules}
 use Rattle.lines.proofs.Text.{put_nothing}
 use Rattle.turns.specs.Promises.{place_after}
-use mathlib.Core.Path.{sym}
-use native.Mathlib.Omega.{arith}
 use Rattle.turns.proofs.conclude.Goals as goal
 
-pub returns-in-Record : goal.returns-in-Record
-returns-in-Record c = rw c.in-Record.is c.go_on.ensures
-
-pub returns-in-End : goal.returns-in-End
+pub returns-in-Ok-None : goal.returns-in-Ok-None
 unfolding place_after
-returns-in-End c = rw c.in-End.is (record {
+returns-in-Ok-None c = let none : c.in-Ok-None.field-0 ≡ None = search rules in rw (c.in-Ok-None.is, none) (record {
   run = c.end.ensures;
   place = omega arith;
   there = sym (put_nothing _ _);
-})
-
-pub returns-in-Malformed : goal.returns-in-Malformed
-returns-in-Malformed c = rw c.in-Malformed.is (record {
-  run = c.end-in-Malformed.ensures;
-  place = c.put_malformed-used.ensures.0;
-  there = c.put_malformed-used.ensures.1;
 })

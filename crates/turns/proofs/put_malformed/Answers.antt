@@ -1,6 +1,10 @@
+use native.Mathlib.Omega.{arith}
 use Rattle.turns.specs.Promises.{place_after}
-use mathlib.Core.Path.{ap, ◌∙◌}
 use Rattle.turns.proofs.put_malformed.Goals as goal
 
 pub returns : goal.returns
-returns c = let number = c.refusal_number.ensures in (rw (← number) (c.place_after.ensures ∙ ap (place_after _) c.put_refusal-n.ensures.0), rw (← number) c.put_refusal-n.ensures.1)
+unfolding place_after
+returns c =
+    let number = c.refusal_number.ensures in
+    let line = c.put_refusal-n.ensures in
+    (omega (arith, rw number at line.0), rw number at line.1)

@@ -5,6 +5,6 @@ pub returns-then-over : goal.returns-then-over
 unfolding read_next
 returns-then-over c = simp c.if-over.true
 
-pub returns : goal.returns
+pub returns-else-over : goal.returns-else-over
 unfolding read_next
-returns c = simp (c.if-over.false, c.read_at.ensures)
+returns-else-over c = simp (c.if-over.false, c.read_at.ensures)

@@ -1,17 +1,12 @@
-use Rattle.waiting.proofs.Plans.{fits_less, fits_more}
-use mathlib.Core.Path.{sym}
-use borrow.Author.Tests.{le-ltb, lt-ltb}
+use borrow.Author.Tests.{le-ltb, lt-leb, lt-ltb}
+use Rattle.waiting.proofs.Plans.{fits_capped}
 use Rattle.waiting.specs.Waiting.{fits}
 use Rattle.waiting.proofs.fits.Goals as goal
 
-pub returns-then-length-lt-WAITING : goal.returns-then-length-lt-WAITING
+pub returns-then-length-ge-WAITING : goal.returns-then-length-ge-WAITING
 unfolding fits
-returns-then-length-lt-WAITING c = simp (lt-ltb _ _ c.if-length-lt-WAITING.true)
+returns-then-length-ge-WAITING c = simp (le-ltb _ _ c.if-length-ge-WAITING.true) (fits_capped _ _ c.saturating_add.ensures)
 
-pub returns-then-left-gt-WAITING : goal.returns-then-left-gt-WAITING
+pub returns-else-length-ge-WAITING : goal.returns-else-length-ge-WAITING
 unfolding fits
-returns-then-left-gt-WAITING c = simp (le-ltb _ _ c.if-length-lt-WAITING.false) (sym (fits_less _ _ c.if-left-gt-WAITING.true))
-
-pub returns : goal.returns
-unfolding fits
-returns c = simp (le-ltb _ _ c.if-length-lt-WAITING.false) (fits_more _ _ c.if-left-gt-WAITING.false)
+returns-else-length-ge-WAITING c = simp (lt-ltb _ _ c.if-length-ge-WAITING.false, lt-leb _ _ c.if-length-ge-WAITING.false)

@@ -2,10 +2,6 @@ use native.Mathlib.Omega.{arith}
 use Rattle.waiting.specs.Waiting.{held_in}
 use Rattle.waiting.proofs.held.Goals as goal
 
-pub returns-then-count-gt-WAITING : goal.returns-then-count-gt-WAITING
-unfolding held_in
-returns-then-count-gt-WAITING c = (omega arith, omega arith)
-
 pub returns : goal.returns
 unfolding held_in
 returns c = (omega arith, omega arith)

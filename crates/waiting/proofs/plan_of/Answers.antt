@@ -11,6 +11,6 @@ pub returns-then-takes_out : goal.returns-then-takes_out
 unfolding plan_of
 returns-then-takes_out c = simp (← c.takes_out.ensures, c.if-takes_out.true, ← c.held-left.ensures.0, ← c.plan_from.ensures)
 
-pub returns : goal.returns
+pub returns-else-takes_out : goal.returns-else-takes_out
 unfolding plan_of
-returns c = simp (← c.takes_out.ensures, c.if-takes_out.false, ← c.plan_from-2.ensures)
+returns-else-takes_out c = simp (← c.takes_out.ensures, c.if-takes_out.false, ← c.plan_from-else-takes_out.ensures)

@@ -5,6 +5,6 @@ pub returns-then-e : goal.returns-then-e
 unfolding takes_out
 returns-then-e c = simp (c.if-e.true, ← c.held.ensures.0)
 
-pub returns : goal.returns
+pub returns-else-e : goal.returns-else-e
 unfolding takes_out
-returns c = simp c.if-e.false
+returns-else-e c = simp c.if-e.false

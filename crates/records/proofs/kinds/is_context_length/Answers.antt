@@ -4,7 +4,7 @@ use Rattle.records.proofs.kinds.is_context_length.Goals as goal
 
 pub returns-then-n-eq0 : goal.returns-then-n-eq0
 unfolding is_context_length
-returns-then-n-eq0 c = simp (eq-eqb _ _ c.if-n-eq0.true, c.is_count.ensures)
+returns-then-n-eq0 c = simp (eq-eqb _ _ c.if-n-eq0.true, c.is_count.ensures, c.from.ensures)
 
 pub returns-else-n-eq0 : goal.returns-else-n-eq0
 unfolding is_context_length

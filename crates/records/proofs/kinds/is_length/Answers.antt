@@ -10,6 +10,6 @@ pub returns-then-is_short_give_up : goal.returns-then-is_short_give_up
 unfolding is_length
 returns-then-is_short_give_up c = simp (ne_eqb _ _ c.if-kind-eq-CONTEXT_KIND.false, ← c.is_short_give_up.ensures, c.if-is_short_give_up.true)
 
-pub returns : goal.returns
+pub returns-else-is_short_give_up : goal.returns-else-is_short_give_up
 unfolding is_length
-returns c = simp (ne_eqb _ _ c.if-kind-eq-CONTEXT_KIND.false, ← c.is_short_give_up.ensures, c.if-is_short_give_up.false, c.content_length.ensures)
+returns-else-is_short_give_up c = simp (ne_eqb _ _ c.if-kind-eq-CONTEXT_KIND.false, ← c.is_short_give_up.ensures, c.if-is_short_give_up.false, c.content_length.ensures)

@@ -6,6 +6,6 @@ pub returns-then-kind-eq-GIVE_UP_KIND : goal.returns-then-kind-eq-GIVE_UP_KIND
 unfolding is_short_give_up
 returns-then-kind-eq-GIVE_UP_KIND c = simp (eq-eqb _ _ c.if-kind-eq-GIVE_UP_KIND.true)
 
-pub returns : goal.returns
+pub returns-else-kind-eq-GIVE_UP_KIND : goal.returns-else-kind-eq-GIVE_UP_KIND
 unfolding is_short_give_up
-returns c = simp (ne_eqb _ _ c.if-kind-eq-GIVE_UP_KIND.false)
+returns-else-kind-eq-GIVE_UP_KIND c = simp (ne_eqb _ _ c.if-kind-eq-GIVE_UP_KIND.false)

@@ -1,6 +1,11 @@
+use mathlib.Core.Path.{ap, ◌∙◌}
+use native.Mathlib.Omega.{arith}
+use Rattle.std.proofs.lemmas.List.Edits.{sets}
 use Rattle.records.specs.Records.{header_of, two_bytes, four_bytes}
+use Rattle.records.proofs.Bytes.{four_given}
 use Rattle.records.proofs.writer.four_bytes.Goals as goal
 
 pub returns : goal.returns
 unfolding header_of two_bytes four_bytes
-returns c = simp (c.with_two.ensures, c.two_bytes-bytes.ensures)
+returns c =
+    c.with.ensures ∙ ap (sets c.header.result 3) (c.to_be_bytes.ensures ∙ four_given c.args.a (omega arith)) ∙ simp (c.header.ensures, c.content_length.ensures)

@@ -1,7 +1,6 @@
-use mathlib.Core.Path.{refl}
 use Rattle.switch.specs.DirtySet.{new_switch}
 use Rattle.switch.proofs.Switch.new.Goals as goal
 
 pub returns : goal.returns
 unfolding new_switch
-returns c = refl
+returns c = simp c.from.ensures

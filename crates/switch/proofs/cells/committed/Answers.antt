@@ -3,4 +3,4 @@ use Rattle.switch.proofs.cells.committed.Goals as goal
 
 pub returns : goal.returns
 unfolding committed_in
-returns c = c.stamp_in.ensures
+returns c = c.read.ensures

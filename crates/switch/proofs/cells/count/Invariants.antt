@@ -1,5 +1,5 @@
 -- The loop's invariant: the sum has 65,536 for each mark that counts among the first i slots, and less than 65,536 besides.
-use Prim.Native.Nat.{ℕ, ◌+◌, ◌-◌, ◌*◌, ◌≤◌}
+use Prim.Native.Nat.{ℕ, ◌+◌, ◌*◌, ◌≤◌}
 use Rattle.switch.specs.DirtySet.{counted_to}
 use Rattle.switch.proofs.cells.count.Given as goal
 
@@ -9,6 +9,3 @@ Sums k i sum = (65536 * k ≤ sum) × (sum ≤ 65536 * k + 48 * i) × (k ≤ i)
 
 abbrev pub invariant-loop-i : goal.invariant-loop-i
 invariant-loop-i l = (l.i ≤ 48) × Sums (counted_to l.cells l.c l.i) l.i l.sum
-
-abbrev pub decreases-loop-i : goal.decreases-loop-i
-decreases-loop-i l = 48 - l.i

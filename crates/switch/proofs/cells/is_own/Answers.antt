@@ -3,4 +3,4 @@ use Rattle.switch.proofs.cells.is_own.Goals as goal
 
 pub returns : goal.returns
 unfolding is_own
-returns c = simp (← c.upper.ensures, ← c.number.ensures)
+returns c = simp (← c.upper.ensures, c.from.ensures, ← c.number.ensures)

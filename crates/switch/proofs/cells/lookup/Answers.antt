@@ -1,18 +1,22 @@
+use mathlib.Core.Path.{sym}
+use Rattle.std.specs.Prelude.{ℕ, Some, None}
+use borrow.Author.Rules.{rules}
+use Rattle.slots.specs.{holds_above}
 use Rattle.switch.specs.DirtySet.{looked_up, mark_above}
+use Rattle.switch.specs.Numbers.{slot_object, slot_stamp}
+use Rattle.switch.proofs.FirstSlot.{found_gives}
 use Rattle.switch.proofs.cells.lookup.Goals as goal
 
-pub returns-then-counts_at : goal.returns-then-counts_at
+pub returns-in-Some : goal.returns-in-Some
 unfolding looked_up mark_above
-returns-then-counts_at c = simp (← c.first_slot-p1.ensures.0, ← c.second_slot-p2.ensures.0, ← c.third_slot-p3.ensures.0, ← c.committed-c.ensures, ← c.counts_at.ensures, c.if-counts_at.true, c.stamp_at.ensures)
+returns-in-Some c =
+    let w = c.args.cells.now in
+    let counts = λ (i : ℕ). holds_above (slot_object w i) (slot_stamp w i) c.args.o c.committed-c.result in
+    simp (c.stamp_at.ensures, ← c.committed-c.ensures) (sym (found_gives c.args.o counts (slot_stamp w) 0 (Some c.in-Some.i) (c.in-Some.ensures.value counts (λ i b h k. search rules))))
 
-pub returns-then-counts_at-2 : goal.returns-then-counts_at-2
+pub returns-in-None : goal.returns-in-None
 unfolding looked_up mark_above
-returns-then-counts_at-2 c = simp (← c.first_slot-p1.ensures.0, ← c.second_slot-p2.ensures.0, ← c.third_slot-p3.ensures.0, ← c.committed-c.ensures, ← c.counts_at.ensures, c.if-counts_at.false, ← c.counts_at-2.ensures, c.if-counts_at-2.true, c.stamp_at-then-counts_at-2.ensures)
-
-pub returns-then-counts_at-3 : goal.returns-then-counts_at-3
-unfolding looked_up mark_above
-returns-then-counts_at-3 c = simp (← c.first_slot-p1.ensures.0, ← c.second_slot-p2.ensures.0, ← c.third_slot-p3.ensures.0, ← c.committed-c.ensures, ← c.counts_at.ensures, c.if-counts_at.false, ← c.counts_at-2.ensures, c.if-counts_at-2.false, ← c.counts_at-3.ensures, c.if-counts_at-3.true, c.stamp_at-then-counts_at-3.ensures)
-
-pub returns : goal.returns
-unfolding looked_up mark_above
-returns c = simp (← c.first_slot-p1.ensures.0, ← c.second_slot-p2.ensures.0, ← c.third_slot-p3.ensures.0, ← c.committed-c.ensures, ← c.counts_at.ensures, c.if-counts_at.false, ← c.counts_at-2.ensures, c.if-counts_at-2.false, ← c.counts_at-3.ensures, c.if-counts_at-3.false)
+returns-in-None c =
+    let w = c.args.cells.now in
+    let counts = λ (i : ℕ). holds_above (slot_object w i) (slot_stamp w i) c.args.o c.committed-c.result in
+    simp (← c.committed-c.ensures) (sym (found_gives c.args.o counts (slot_stamp w) 0 None (c.in-None.ensures.value counts (λ i b h k. search rules))))

@@ -3,4 +3,4 @@ use Rattle.switch.proofs.cells.stamp_at.Goals as goal
 
 pub returns : goal.returns
 unfolding slot_stamp
-returns c = c.stamp_in.ensures
+returns c = c.read.ensures

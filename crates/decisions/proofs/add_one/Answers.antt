@@ -1,4 +1,0 @@
-use Rattle.decisions.proofs.add_one.Goals as goal
-
-pub returns : goal.returns
-returns c = simp c.blank.ensures

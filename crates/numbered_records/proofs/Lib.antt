@@ -1,0 +1,2 @@
+-- What the writers answer, in numbers.
+pub mod Refusals

@@ -1,6 +1,0 @@
-use Rattle.stamp.specs.Stamps.{set_stamp}
-use Rattle.store.proofs.set_stamp.Goals as goal
-
-pub returns : goal.returns
-unfolding set_stamp
-returns c = simp (c.upper-upper.ensures, c.lower-lower.ensures)

@@ -1,4 +1,0 @@
-use Rattle.switch.proofs.cells.recount.Goals as goal
-
-pub returns : goal.returns
-returns c = simp (← c.count-marks.ensures)
