@@ -135,8 +135,11 @@ pub fn choose(cells: &[u32; CELLS], choice: u8) -> Replica
     ensures { result ≡ chosen_by cells.now choice }
 {
     let n = count(cells);
+    if n == 0 {
+        return 0;
+    }
     let place = remainders::remainder(choice, n);
-    number_in(cells, usize::from(place))
+    number_at(cells, usize::from(place))
 }
 
 // The place in the chain of the replica with this number, where it is live.

@@ -6,13 +6,16 @@ use std::env::FillError;
 use std::io;
 use std::rt::Env;
 
+// A larger number is read as this one, which is above every number that is taken.
+const LARGE: u64 = 1000000000000;
+
 // Room for a word of the command. A longer one is read as no number.
 const WORD: usize = 4096;
 
 // Room for the records of any run that is drawn.
 const ROOM: usize = 65536;
 
-// The number that digits alone show; one that has no room in 64 bits counts as the greatest that has, which is above every number that is taken.
+// The number that digits alone show; one above LARGE is read as LARGE.
 fn number(text: &[u8]) -> Option<u64> {
     if text.is_empty() || !text.iter().all(|b| b.is_ascii_digit()) {
         return None;
@@ -21,6 +24,7 @@ fn number(text: &[u8]) -> Option<u64> {
         text.iter().fold(0, |n: u64, b| {
             n.saturating_mul(10)
                 .saturating_add(u64::from(b.saturating_sub(b'0')))
+                .min(LARGE)
         }),
     )
 }

@@ -2,6 +2,7 @@
 -- Finished what a step that finishes an operation delivers, Freshness what document 02's Req 01 says of a reply, Handed which steps leave the switch as it is.
 pub mod Effects
 pub mod Refusals
+pub mod Variants
 pub mod Points
 pub mod JoinPoints
 pub mod Fits
