@@ -1,7 +1,7 @@
 // The chain's shape: which replicas are live, in which order, and which switch they permit.
 #![tactic(auto)]
 
-ghost use Rattle.std.specs.Prelude.{◌≡◌, ◌≤◌, ◌<◌};
+ghost use Rattle.std.specs.Prelude.{◌≡◌, ◌%◌, ◌≤◌, ◌<◌};
 ghost use Rattle.store.specs.{live_count, order_at, number_at};
 ghost use Rattle.chain.specs.{member_at, head_of, tail_of, found_place, found_table, number_in, head_number, tail_number, read_replica_of, read_replica_number, is_read_place, chosen_by, permits, all_permit, permitting, removed, numbered, empty_store};
 
@@ -130,6 +130,14 @@ pub fn is_read_place(cells: &[u32; CELLS], place: usize) -> bool
     }
 }
 
+// The place that a choice names among so many live replicas. The table of remainders is asked for no other count.
+fn chosen_place(choice: u8, n: usize) -> usize
+    requires { (1 ≤ n) × (n ≤ 8) }
+    ensures { result ≡ choice % n }
+{
+    usize::from(remainders::remainder(choice, n))
+}
+
 // The live replica that a choice names: at place (choice mod number of live replicas).
 pub fn choose(cells: &[u32; CELLS], choice: u8) -> Replica
     ensures { result ≡ chosen_by cells.now choice }
@@ -138,8 +146,8 @@ pub fn choose(cells: &[u32; CELLS], choice: u8) -> Replica
     if n == 0 {
         return 0;
     }
-    let place = remainders::remainder(choice, n);
-    number_at(cells, usize::from(place))
+    let place = chosen_place(choice, n);
+    number_at(cells, place)
 }
 
 // The place in the chain of the replica with this number, where it is live.
