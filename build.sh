@@ -2,8 +2,8 @@
 # The caller has set `top`, this folder, and `me`, its own name. What is being built goes to standard error.
 
 # What rt builds in crates/NAME/out is copied to target/bin and target/staticlib, where it stays until something that it is made of changes:
-# target/NAME.sum has the sum of the sources that it was built from.
-sum=$(cd "$top" && find crates crates.txt -type f -not -path 'crates/*/out/*' -not -path '*/must-fail/*' -print0 | LC_ALL=C sort -z | xargs -0 cksum | cksum)
+# target/NAME.sum has the sum of the sources that it was built from. The folders out/ are not gone into: rt may be writing there meanwhile.
+sum=$(cd "$top" && find crates crates.txt -path 'crates/*/out' -prune -o -type f -not -path '*/must-fail/*' -print0 | LC_ALL=C sort -z | xargs -0 cksum | cksum)
 fresh() { # NAME FILE...
     local name=$1 made
     shift
